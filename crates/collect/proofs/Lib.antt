@@ -1,0 +1,14 @@
+pub mod Written
+pub mod Skips
+pub mod Admitting
+pub mod Filling
+pub mod Swaps
+pub mod Moving
+pub mod Sweeps
+pub mod Sweeping
+pub mod Indexed
+pub mod Narrow
+pub mod Arranged
+pub mod Gathered
+pub mod Collected
+pub mod Parts

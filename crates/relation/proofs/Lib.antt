@@ -1,0 +1,14 @@
+pub mod Every
+pub mod Spelled
+pub mod KindsTold
+pub mod ByteLoops
+pub mod EightBytes
+pub mod Firsts
+pub mod TupleSets
+pub mod Held
+pub mod Clear
+pub mod Told
+pub mod Pigeons
+pub mod Few
+pub mod FromClear
+pub mod Tuples

@@ -1,0 +1,11 @@
+pub mod Bounds
+pub mod Kinds
+pub mod Texts
+pub mod Values
+pub mod Refusals
+pub mod Lists
+pub mod Sets
+pub mod Rows
+pub mod Operations
+pub mod Theorems
+pub mod Stored

@@ -1,0 +1,4 @@
+pub mod Cells
+pub mod TableRows
+pub mod Places
+pub mod Rowed

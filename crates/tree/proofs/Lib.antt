@@ -1,0 +1,11 @@
+pub mod Pairs
+pub mod Shapes
+pub mod Sorting
+pub mod Growing
+pub mod Walking
+pub mod Inserting
+pub mod Numbering
+pub mod Members
+pub mod Stepping
+pub mod Loading
+pub mod Ranks

@@ -1,0 +1,9 @@
+pub mod Words
+pub mod Lines
+pub mod Rest
+pub mod Number
+pub mod Name
+pub mod Token
+pub mod Kinds
+pub mod Take
+pub mod Writing
