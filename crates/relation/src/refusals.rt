@@ -1,6 +1,8 @@
 // When a call says no: the reason, and what the refusal carries.
 ghost use mathlib.Core.Path.{_≡_};
 ghost use Rattle.relation.specs.Refusals.{number, plain};
+use std::error::Error;
+use std::fmt;
 
 // The reasons for which a call is refused. `number` has the number of each.
 #[derive(Clone, Copy, PartialEq, Eq, Debug)]
@@ -79,3 +81,14 @@ impl Refusal {
         }
     }
 }
+
+pub impl fmt::Display for Refusal as RefusalDisplay {
+    fn fmt<W: fmt::Write>(&self, f: &mut fmt::Formatter<W>) -> fmt::Result {
+        let number = self.reason.number();
+        let line = self.line;
+        let written = self.written;
+        write!(f, "refused {number} {line} {written}")
+    }
+}
+
+pub impl Error for Refusal as RefusalError {}

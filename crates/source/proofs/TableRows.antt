@@ -42,6 +42,23 @@ some-row [] k n r h = let z : _≡_ {A = ℕ} 0 1 = cc in absurd (omega arith)
 some-row (x ∷ xs) zero n r h = (omega arith, cc)
 some-row (x ∷ xs) (suc k) n r h = let t = some-row xs k n r h in (omega arith, t .1)
 
+-- what is known of a place that is filled
+pub record Filled (rows : List Row) (start len : ℕ) (ks : Kinds) (k : ℕ) (r : SpecRow) : Type 0 where
+  pub from : start ≤ k
+  pub upto : k < start + len
+  pub below : k < length rows
+  pub row : meant (ks .count) (getD rows k no-row) ≡ r
+
+pub filled-at : (rows : List Row) (start len : ℕ) (ks : Kinds) (k : ℕ) (r : SpecRow) → table rows start len ks .at k ≡ Some r → Filled rows start len ks k r
+filled-at rows start len ks k r p =
+    let c = cond-some (leb start k && ltb k (start + len)) (meant? (ks .count) (nth rows k)) r p in
+    let both = and-parts (leb start k) (ltb k (start + len)) (c .0) in
+    let row = some-row rows k (ks .count) r (c .1) in
+    record { from = leb-true start k (both .0); upto = ltb-true k (start + len) (both .1); below = row .0; row = row .1 }
+
+pub few-columns : (rows : List Row) (start len : ℕ) (ks : Kinds) → Sound (table rows start len ks) → ks .count ≤ most-columns
+few-columns rows start len ks s = omega (arith, length-firsts (ks .count) (ks .at) Number, s .few-kinds)
+
 -- a table is sound if its rows are good
 pub table-sound : (rows : List Row) (start len : ℕ) (ks : Kinds) → 1 ≤ ks .count → ks .count ≤ most-columns → length rows ≤ most-places
     → ((i : ℕ) → i < start + len → start ≤ i → Good (listed ks) (meant (ks .count) (getD rows i no-row))) → Sound (table rows start len ks)
@@ -50,11 +67,9 @@ table-sound rows start len ks some few many each = record {
   few-kinds = omega (arith, length-firsts (ks .count) (ks .at) Number);
   few = many;
   filled = λ k r p.
-      let c = cond-some (leb start k && ltb k (start + len)) (meant? (ks .count) (nth rows k)) r p in
-      let both = and-parts (leb start k) (ltb k (start + len)) (c .0) in
-      let row = some-row rows k (ks .count) r (c .1) in
-      let good = subst (Good (listed ks)) (row .1) (each k (ltb-true k (start + len) (both .1)) (leb-true start k (both .0))) in
-      record { below = row .0; fitting = good .fitting; period = good .period };
+      let f = filled-at rows start len ks k r p in
+      let good = subst (Good (listed ks)) (f .row) (each k (f .upto) (f .from)) in
+      record { below = f .below; fitting = good .fitting; period = good .period };
 }
 
 -- rows that pass all tests are a table

@@ -14,4 +14,4 @@ returns-else-c-ge1 c = sym (cell-beyond (c .args .self .now .kinds .count) (c .a
     (λ p q. elim (c .else-c-ge1 .came) [ else-c-ge1·by·then-c-ge1·else-c-self w ↦ omega arith | else-c-ge1·by·else-c-ge1 w ↦ omega arith ]))
 
 pub index-self-c : need.index-self-c
-index-self-c c = omega (arith, length-firsts (c .args .self .now .kinds .count) (c .args .self .now .kinds .at) Number, c .pre .few-kinds)
+index-self-c c = omega (arith, length-firsts (c .args .self .now .kinds .count) (c .args .self .now .kinds .at) Number, c .pre .sound .few-kinds)

@@ -28,7 +28,7 @@ returns-else-c-ge1 c =
     (λ p q. elim (c .else-c-ge1 .came) [ else-c-ge1·by·then-c-ge1·else-c-self w ↦ omega arith | else-c-ge1·by·else-c-ge1 w ↦ omega arith ]))
 
 pub index-row-c : need.index-row-c
-index-row-c c = omega (arith, length-firsts (c .args .self .now .kinds .count) (c .args .self .now .kinds .at) Number, c .pre .few-kinds)
+index-row-c c = omega (arith, length-firsts (c .args .self .now .kinds .count) (c .args .self .now .kinds .at) Number, c .pre .sound .few-kinds)
 
 pub offset-row-c : need.offset-row-c
-offset-row-c c = let few : c .args .self .now .kinds .count ≤ 6 = omega (arith, length-firsts (c .args .self .now .kinds .count) (c .args .self .now .kinds .at) Number, c .pre .few-kinds) in search needs
+offset-row-c c = let few : c .args .self .now .kinds .count ≤ 6 = omega (arith, length-firsts (c .args .self .now .kinds .count) (c .args .self .now .kinds .at) Number, c .pre .sound .few-kinds) in search needs

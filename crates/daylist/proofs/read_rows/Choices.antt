@@ -1,6 +1,0 @@
-use lib.ListN.{length}
-use Rattle.words.specs.Rest.{linesLeft}
-use Rattle.daylist.proofs.read_rows.Given as given
-
-abbrev pub μ-loop-line : given.MeasureT-loop-line
-μ-loop-line l = length (linesLeft (l .lines))

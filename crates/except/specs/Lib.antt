@@ -1,0 +1,4 @@
+pub mod Blockers
+pub mod Excepts
+pub mod Sounds
+pub mod Theorems

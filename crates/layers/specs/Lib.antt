@@ -1,0 +1,10 @@
+pub mod Accepted
+pub mod Alike
+pub mod Columns
+pub mod Selects
+pub mod Projects
+pub mod Windows
+pub mod Unions
+pub mod Soundness
+pub mod Parts
+pub mod Theorems

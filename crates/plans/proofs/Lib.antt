@@ -1,0 +1,3 @@
+pub mod Congruent
+pub mod Laws
+pub mod Answered
