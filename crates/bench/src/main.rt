@@ -72,11 +72,13 @@ struct Work {
     index: Vec<Node>,
 }
 
-fn work(heap: Global) -> Result<Work, AllocError> {
-    Ok(Work {
-        rows: vec![in heap; Row::blank(); MOST_WORK]?,
-        index: vec![in heap; Node::blank(); MOST_WORK]?,
-    })
+impl Work {
+    fn new(heap: Global) -> Result<Work, AllocError> {
+        Ok(Work {
+            rows: vec![in heap; Row::blank(); MOST_WORK]?,
+            index: vec![in heap; Node::blank(); MOST_WORK]?,
+        })
+    }
 }
 
 // The rows of a, coalesced.
@@ -130,7 +132,7 @@ fn report(
 // Does each job over n rows.
 fn run_size(rt: &LibcRuntime, n: usize, timed: bool) -> Result<(), AnyError> {
     let heap = rt.alloc();
-    let mut work = work(heap)?;
+    let mut work = Work::new(heap)?;
     let left = random_rows(heap, n, 1)?;
     let right = random_rows(heap, n, 2)?;
     println!(rt, "{n} rows")?;

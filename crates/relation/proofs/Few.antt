@@ -14,7 +14,7 @@ use Rattle.relation.proofs.Held.{In, Agreed, agreed}
 use Rattle.relation.proofs.Clear.{apart}
 use Rattle.relation.proofs.Pigeons.{all-both, any-with, no-fewer}
 
-abbrev Touchless : SpecRow → SpecRow → Type 0
+abbrev pub Touchless : SpecRow → SpecRow → Type 0
 Touchless r s = r .tuple ≡ s .tuple → Share r s ⊎ Meet r s → ⊥
 
 -- no row of its tuple holds the day at which a coalesced row ends

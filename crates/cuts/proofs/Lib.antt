@@ -1,0 +1,15 @@
+pub mod Lists
+pub mod Parts
+pub mod Sorting
+pub mod Writing
+pub mod Adding
+pub mod Keeping
+pub mod Comparing
+pub mod Emitting
+pub mod Cutting
+pub mod Summing
+pub mod Besting
+pub mod Telling
+pub mod Stretching
+pub mod Grouping
+pub mod Tallying

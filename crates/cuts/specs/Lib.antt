@@ -1,0 +1,9 @@
+pub mod Areas
+pub mod Amounts
+pub mod Groups
+pub mod Days
+pub mod Cuts
+pub mod Totals
+pub mod Bests
+pub mod Measured
+pub mod Stretches
