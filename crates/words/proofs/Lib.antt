@@ -6,3 +6,4 @@ pub mod Padded
 pub mod Options
 pub mod Spelling
 pub mod Taking
+pub mod Gaps

@@ -1,13 +1,13 @@
 -- A word that a table of words does not have.
 use mathlib.Core.Path.{_≡_, refl, sym, subst, _∙_}
-use mathlib.Core.Bool.{true, false, cond}
+use mathlib.Core.Bool.{false}
 use mathlib.Core.List.{List, [], _∷_}
 use mathlib.Core.Logic.{⊎-elim}
 use Prim.Native.Nat.{ℕ}
 use lib.Chars.{codes}
 use lib.Utf8.{encode}
 use Rattle.std.specs.declared.option.Option.{Option}
-use Rattle.std.specs.declared.option.Option.the-variants.{None, Some}
+use Rattle.std.specs.declared.option.Option.the-variants.{None}
 use Rattle.std.specs.shelf.Text.{sameBytes}
 use Rattle.std.specs.Text.{Utf8}
 use Rattle.std.proofs.shelf.Equals.{sameBytes-decides}

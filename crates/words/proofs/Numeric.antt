@@ -1,6 +1,6 @@
 -- Reading a number digit by digit.
 use mathlib.Core.Path.{_≡_, refl, sym, ap, _∙_}
-use mathlib.Core.Bool.{Bool, true, false, not, _&&_, _||_, cond}
+use mathlib.Core.Bool.{true, false, not, _&&_, _||_}
 use mathlib.Core.List.{List, [], _∷_}
 use mathlib.Core.Logic.{_⊎_, inl, inr}
 use Prim.Native.Nat.{ℕ, _+_, _-_, _*_, _^_, _≤_, _<_}
@@ -8,15 +8,14 @@ use native.Mathlib.Nat.{pow-suc, pow-le-pow-right}
 use native.Mathlib.Numerals.{add-one}
 use native.Mathlib.Omega.{arith}
 use lib.Dec.{eqb, leb, lit<}
-use lib.IntN.{ℤ, pos, negℤ}
 use lib.ListN.{length, getD, drop, take}
 use Rattle.std.specs.declared.option.Option.{Option}
 use Rattle.std.specs.declared.option.Option.the-variants.{None, Some}
 use Rattle.std.specs.shelf.Text.{allDigits}
 use Rattle.std.specs.Text.{asciiDigit}
-use Rattle.std.proofs.shelf.Lists.{at-drop-more, at-drop-all, take-rest}
-use Rattle.std.proofs.shelf.Tests.{cond-true, cond-false, eq-eqb, ne-eqb, le-leb, lt-leb, and-right, and-from, and-left, or-left, or-right, or-from, not-from-true, not-from-false}
-use Rattle.words.specs.Number.{readOn, plain, natural, number, plus, minus}
+use Rattle.std.proofs.shelf.Lists.{at-drop-more, take-rest}
+use Rattle.std.proofs.shelf.Tests.{cond-true, cond-false, eq-eqb, ne-eqb, le-leb, and-right, and-from, or-left, or-right, not-from-false}
+use Rattle.words.specs.Number.{readOn, plain, natural, number, minus}
 
 pub digits-more : (ds : List ℕ) (i : ℕ) → i < length ds → true ≡ asciiDigit (getD ds i 0) → allDigits (drop i ds) ≡ allDigits (drop (i + 1) ds)
 digits-more ds i h e = at-drop-more allDigits ds i 0 h ∙ ap (λ t. t && allDigits (drop (i + 1) ds)) (sym e)
@@ -27,14 +26,6 @@ digits-stop ds i h e = at-drop-more allDigits ds i 0 h ∙ ap (λ t. t && allDig
 pub not-plain : (ds : List ℕ) → allDigits ds ≡ false → plain ds ≡ false
 not-plain [] e = refl
 not-plain (c ∷ cs) e = and-right (leb (length cs) 12) _ (and-right (not (eqb c 48) || eqb (length cs) 0) _ e)
-
-pub too-long : (ds : List ℕ) → 13 < length ds → plain ds ≡ false
-too-long [] h = refl
-too-long (c ∷ cs) h = and-left (leb (length cs) 12) _ (lt-leb _ _ (omega arith))
-
-pub leading-zero : (ds : List ℕ) → 1 < length ds → getD ds 0 0 ≡ 48 → plain ds ≡ false
-leading-zero [] h e = refl
-leading-zero (c ∷ cs) h e = and-right (leb (length cs) 12) _ (and-left (not (eqb c 48) || eqb (length cs) 0) _ (or-from _ _ (not-from-true _ (eq-eqb _ _ e)) (ne-eqb _ _ (λ z. omega arith))))
 
 pub is-plain : (ds : List ℕ) → 0 < length ds → length ds ≤ 13 → (length ds ≤ 1) ⊎ (getD ds 0 0 ≡ 48 → ⊥) → allDigits ds ≡ true → plain ds ≡ true
 is-plain [] some le z e = absurd (omega arith)

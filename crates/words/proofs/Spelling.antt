@@ -1,29 +1,29 @@
 -- Which words are which tokens.
 use mathlib.Core.Path.{_≡_, refl, sym, ap, subst, _∙_}
-use mathlib.Core.Bool.{Bool, true, false, cond, not, _&&_, _||_}
-use mathlib.Core.List.{List, [], _∷_, _++_}
+use mathlib.Core.Bool.{true, false, cond, not, _&&_, _||_}
+use mathlib.Core.List.{[], _∷_, _++_}
 use mathlib.Core.Logic.{_⊎_, inl, inr, ⊎-elim}
 use Prim.Native.Nat.{ℕ, _+_, _-_, _≤_, _<_}
 use native.Mathlib.Omega.{arith}
 use lib.Dec.{eqb, leb}
 use lib.IntN.{ℤ, pos, negℤ}
-use lib.ListN.{length, getD, take, length-append}
+use lib.ListN.{length, getD, take}
 use Rattle.std.specs.Options.{mapped}
 use Rattle.std.specs.Text.{asciiDigit, asciiLower}
 use Rattle.std.specs.shelf.Text.{allDigits}
 use Rattle.std.specs.declared.option.Option.{Option}
 use Rattle.std.specs.declared.option.Option.the-variants.{None, Some}
 use Rattle.std.proofs.shelf.Lists.{take-more, take-all, take-at, getD-at, getD-past, length-push}
-use Rattle.std.proofs.shelf.Tests.{cond-true, cond-false, cond-both, eq-eqb, ne-eqb, eqb-true, eqb-false, leb-true, le-leb, cases-bool, cases-eq, and-parts, and-from, or-left, or-right, or-from, or-cases, not-true}
+use Rattle.std.proofs.shelf.Tests.{cond-true, cond-false, cond-both, eq-eqb, ne-eqb, eqb-true, eqb-false, leb-true, le-leb, cases-bool, cases-eq, and-parts, and-from, or-left, or-right, or-cases, not-true}
 use Rattle.std.proofs.shelf.Ways.{tells}
 use Rattle.relation.specs.Values.{isWord}
 use Rattle.words.specs.declared.tokens.Position.{Position}
 use Rattle.words.specs.declared.tokens.Position.the-variants as position
-use Rattle.words.specs.declared.tokens.Sign.{Sign}
-use Rattle.words.specs.declared.tokens.Sign.the-variants.{Equal, Unequal, Less, AtMost, Greater, AtLeast}
+use Rattle.relation.specs.declared.conditions.Sign.{Sign}
+use Rattle.relation.specs.declared.conditions.Sign.the-variants.{Equal, NotEqual, Less, LessEqual, Greater, GreaterEqual}
 use Rattle.words.specs.Number.{number, natural, plain, plus, minus, readOn}
 use Rattle.words.specs.Name.{isName}
-use Rattle.words.specs.Token.{Tok, name, numeral, quoted, column, sign, token, quotation, columnOf, shortSign, longSign, signOf, signByte, wordAt}
+use Rattle.words.specs.Token.{Tok, name, numeral, quoted, column, sign, token, quotation, columnOf, signOf, signByte, wordAt}
 use Rattle.words.specs.Take.{Text}
 use Rattle.words.specs.Writing.{Numeral, WritesNumber, Name, WritesColumn, spelledSign}
 use Rattle.words.proofs.Numeric.{is-plain}
@@ -129,11 +129,11 @@ sign-told (b ∷ c ∷ d ∷ w) s e = absent s e
 
 pub sign-token : (p : Position) (s : Sign) → token p (spelledSign s) ≡ Some (sign s)
 sign-token p Equal = refl
-sign-token p Unequal = refl
+sign-token p NotEqual = refl
 sign-token p Less = refl
-sign-token p AtMost = refl
+sign-token p LessEqual = refl
 sign-token p Greater = refl
-sign-token p AtLeast = refl
+sign-token p GreaterEqual = refl
 
 -- ---- columns
 

@@ -1,12 +1,11 @@
 -- What the takers read is written there, and what is written there they read.
 use mathlib.Core.Path.{_≡_, refl, sym, ap, subst, _∙_}
-use mathlib.Core.Bool.{Bool, true, false, cond, _&&_}
-use mathlib.Core.List.{List, [], _∷_, _++_, map}
-use mathlib.Core.Logic.{_⊎_, inl, inr, ⊎-elim}
-use Prim.Native.Nat.{ℕ, _≤_, _<_}
+use mathlib.Core.Bool.{true, false, cond, _&&_}
+use mathlib.Core.List.{List, [], _∷_, map}
+use Prim.Native.Nat.{ℕ, _≤_}
 use native.Mathlib.Omega.{arith}
 use lib.Chars.{codes}
-use lib.Dec.{eqb, leb}
+use lib.Dec.{leb}
 use lib.IntN.{ℤ}
 use lib.ListN.{length}
 use Rattle.std.specs.Options.{isSome}
@@ -22,11 +21,11 @@ use Rattle.relation.specs.Bounds.{most-columns}
 use Rattle.relation.specs.Lists.{every}
 use Rattle.words.specs.declared.tokens.Position.{Position}
 use Rattle.words.specs.declared.tokens.Position.the-variants as position
-use Rattle.words.specs.declared.tokens.Sign.{Sign}
-use Rattle.words.specs.declared.tokens.Sign.the-variants.{Equal, Unequal, Less, AtMost, Greater, AtLeast}
+use Rattle.relation.specs.declared.conditions.Sign.{Sign}
+use Rattle.relation.specs.declared.conditions.Sign.the-variants.{Equal, NotEqual, Less, LessEqual, Greater, GreaterEqual}
 use Rattle.words.specs.Token.{Tok, name, numeral, quoted, column, sign, token}
 use Rattle.words.specs.Kinds.{kindByte, kindOf, isKinds, kept, kindsOf}
-use Rattle.words.specs.Take.{Text, _then_, Val, numberVal, wordVal, nameIn, numberIn, valueIn, columnIn, signIn, isEqual, takeToken, takeName, takeNumber, valueOf, takeValue, takeColumn, takeSign, takeEquals, takeKinds, nothing, isValue, allValues, RowText, takeRow}
+use Rattle.words.specs.Take.{Text, _then_, Val, numberVal, wordVal, nameIn, numberIn, valueIn, columnIn, signIn, isEqual, takeToken, takeName, takeNumber, valueOf, takeValue, takeColumn, takeSign, takeEquals, nothing, isValue, allValues, RowText, takeRow}
 use Rattle.words.specs.Writing.{WritesNumber, Name, WritesValue, WritesValues, WritesColumn, spelledSign, letter, WritesKinds}
 use Rattle.words.proofs.Options.{same-some, absent, then-some, cond-some, then-is}
 use Rattle.words.proofs.Spelling.{number-token, quoted-token, sign-token, column-token, name-token, Told, told}
@@ -118,11 +117,6 @@ pub value-is : (w : Text) (v : Val) → WritesValue w v → valueOf w ≡ Some v
 value-is w (numberVal z) h = then-is (token position.Name w) valueIn (numeral z) (number-token position.Name w z h)
 value-is w (wordVal q) h = then-is (token position.Name w) valueIn (quoted q) (ap (token position.Name) (h .0) ∙ quoted-token position.Name q (h .1))
 
-pub value-read : (ws : List Text) (r : Val × List Text) → takeValue ws ≡ Some r → (w : Text) × (ws ≡ w ∷ r .1) × WritesValue w (r .0)
-value-read ws r e =
-    let h = taken-read position.Name valueIn ws r e in
-    (h .0, h .2, value-told (h .0) (h .1) (r .0) (told position.Name (h .0) (h .1) (h .3)) (h .4))
-
 pub value-take : (w : Text) (v : Val) (on : List Text) → WritesValue w v → takeValue (w ∷ on) ≡ Some (v, on)
 value-take w v on h =
     let t = then-some (token position.Name w) valueIn v (value-is w v h) in
@@ -165,11 +159,11 @@ sign-take s on = taken-take position.Name signIn (spelledSign s) (sign s) s on (
 
 is-equal : (s : Sign) → isEqual s ≡ true → spelledSign s ≡ codes "="
 is-equal Equal e = refl
-is-equal Unequal e = absurd (true≢false (sym e))
+is-equal NotEqual e = absurd (true≢false (sym e))
 is-equal Less e = absurd (true≢false (sym e))
-is-equal AtMost e = absurd (true≢false (sym e))
+is-equal LessEqual e = absurd (true≢false (sym e))
 is-equal Greater e = absurd (true≢false (sym e))
-is-equal AtLeast e = absurd (true≢false (sym e))
+is-equal GreaterEqual e = absurd (true≢false (sym e))
 
 pub equals-read : (ws on : List Text) → takeEquals ws ≡ Some on → ws ≡ codes "=" ∷ on
 equals-read ws on e =

@@ -7,3 +7,4 @@ pub mod Token
 pub mod Kinds
 pub mod Take
 pub mod Writing
+pub mod Parted

@@ -12,8 +12,8 @@ use Rattle.relation.specs.declared.columns.Kinds.{Kinds}
 use Rattle.words.specs.declared.tails.RowParts.{RowParts}
 use Rattle.words.specs.declared.tokens.Position.{Position}
 use Rattle.words.specs.declared.tokens.Position.the-variants as position
-use Rattle.words.specs.declared.tokens.Sign.{Sign}
-use Rattle.words.specs.declared.tokens.Sign.the-variants.{Equal, Unequal, Less, AtMost, Greater, AtLeast}
+use Rattle.relation.specs.declared.conditions.Sign.{Sign}
+use Rattle.relation.specs.declared.conditions.Sign.the-variants.{Equal, NotEqual, Less, LessEqual, Greater, GreaterEqual}
 use Rattle.words.specs.declared.tokens.Value.{Value}
 use Rattle.words.specs.declared.tokens.Value.the-variants as borrowed
 use Rattle.words.specs.Token.{Tok, name, numeral, quoted, column, sign, token}
@@ -76,11 +76,11 @@ signIn (sign s) = Some s
 
 abbrev pub isEqual : Sign → Bool
 isEqual Equal = true
-isEqual Unequal = false
+isEqual NotEqual = false
 isEqual Less = false
-isEqual AtMost = false
+isEqual LessEqual = false
 isEqual Greater = false
-isEqual AtLeast = false
+isEqual GreaterEqual = false
 
 abbrev pub takeToken : Position → List Text → Option (Tok × List Text)
 takeToken p [] = None

@@ -1,5 +1,5 @@
 -- What a word is.
-use mathlib.Core.Bool.{Bool, true, false, cond, _&&_, _||_}
+use mathlib.Core.Bool.{Bool, cond, _&&_, _||_}
 use mathlib.Core.List.{List, [], _∷_}
 use Prim.Native.Nat.{ℕ, _-_}
 use lib.Dec.{eqb, leb}
@@ -12,8 +12,8 @@ use Rattle.std.specs.declared.option.Option.the-variants.{None, Some}
 use Rattle.relation.specs.Values.{isWord}
 use Rattle.words.specs.declared.tokens.Position.{Position}
 use Rattle.words.specs.declared.tokens.Position.the-variants as position
-use Rattle.words.specs.declared.tokens.Sign.{Sign}
-use Rattle.words.specs.declared.tokens.Sign.the-variants.{Equal, Unequal, Less, AtMost, Greater, AtLeast}
+use Rattle.relation.specs.declared.conditions.Sign.{Sign}
+use Rattle.relation.specs.declared.conditions.Sign.the-variants.{Equal, NotEqual, Less, LessEqual, Greater, GreaterEqual}
 use Rattle.words.specs.declared.tokens.Token.{Token}
 use Rattle.words.specs.declared.tokens.Token.the-variants as borrowed
 use Rattle.words.specs.Number.{number}
@@ -48,7 +48,7 @@ shortSign b = cond (eqb b 61) (Some Equal) (cond (eqb b 60) (Some Less) (cond (e
 
 -- !=, <= and >=, by the first byte
 abbrev pub longSign : ℕ → Option Sign
-longSign b = cond (eqb b 33) (Some Unequal) (cond (eqb b 60) (Some AtMost) (cond (eqb b 62) (Some AtLeast) None))
+longSign b = cond (eqb b 33) (Some NotEqual) (cond (eqb b 60) (Some LessEqual) (cond (eqb b 62) (Some GreaterEqual) None))
 
 abbrev pub signOf : List ℕ → Option Sign
 signOf [] = None

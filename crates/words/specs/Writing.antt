@@ -14,8 +14,8 @@ use Rattle.relation.specs.Bounds.{most-columns}
 use Rattle.relation.specs.Values.{isWord}
 use Rattle.words.specs.declared.names.Reserved.{Reserved}
 use Rattle.words.specs.declared.names.Reserved.the-variants.{Base, During, Where, On, Of, By}
-use Rattle.words.specs.declared.tokens.Sign.{Sign}
-use Rattle.words.specs.declared.tokens.Sign.the-variants.{Equal, Unequal, Less, AtMost, Greater, AtLeast}
+use Rattle.relation.specs.declared.conditions.Sign.{Sign}
+use Rattle.relation.specs.declared.conditions.Sign.the-variants.{Equal, NotEqual, Less, LessEqual, Greater, GreaterEqual}
 use Rattle.words.specs.Number.{readOn}
 use Rattle.words.specs.Name.{isName}
 use Rattle.words.specs.Take.{Text, Val, numberVal, wordVal}
@@ -53,11 +53,11 @@ WritesColumn w k = (w ≡ 99 ∷ (48 + k) ∷ []) × (1 ≤ k) × (k ≤ most-co
 
 abbrev pub spelledSign : Sign → Text
 spelledSign Equal = codes "="
-spelledSign Unequal = codes "!="
+spelledSign NotEqual = codes "!="
 spelledSign Less = codes "<"
-spelledSign AtMost = codes "<="
+spelledSign LessEqual = codes "<="
 spelledSign Greater = codes ">"
-spelledSign AtLeast = codes ">="
+spelledSign GreaterEqual = codes ">="
 
 abbrev pub spelledReserved : Reserved → Text
 spelledReserved Base = codes "base"

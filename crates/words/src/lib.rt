@@ -6,4 +6,5 @@ pub mod numbers;
 pub mod reader;
 pub mod tails;
 pub mod takers;
+pub mod theorems;
 pub mod tokens;

@@ -1,12 +1,12 @@
 // A text's lines. Byte 10 ends each, and the last may lack it.
 ghost use mathlib.Core.Path.{_≡_};
-ghost use mathlib.Core.List.{List, [], _∷_};
-ghost use Prim.Native.Nat.{ℕ, _+_, _-_, _<_, _≤_};
+ghost use mathlib.Core.List.{[], _∷_};
+ghost use Prim.Native.Nat.{_+_, _-_, _<_, _≤_};
 ghost use lib.ListN.{length};
 ghost use Rattle.std.specs.Options.{Cases};
 ghost use Rattle.std.specs.Holes.{between};
 ghost use Rattle.words.specs.Rest.{linesLeft};
-ghost use Rattle.words.specs.Lines.{lines as linesOf, linesAt, closed};
+ghost use Rattle.words.specs.Lines.{lines as linesOf, linesAt};
 
 const LINE_END: u8 = b'\n';
 

@@ -1,6 +1,5 @@
 // The open tails of a line, lines that say nothing, and what a row's line says.
 ghost use mathlib.Core.Path.{_≡_};
-ghost use Prim.Native.Nat.{ℕ};
 ghost use lib.Dec.{eqb, leb};
 ghost use lib.ListN.{length, getD};
 ghost use Rattle.std.specs.Options.{mapped};

@@ -1,10 +1,7 @@
 // Takes what is wanted from the front of a line's words.
 ghost use mathlib.Core.Path.{_≡_};
-ghost use mathlib.Core.Bool.{true, false, cond};
-ghost use mathlib.Core.List.{List, [], _∷_};
+ghost use mathlib.Core.List.{List, _∷_};
 ghost use Prim.Native.Nat.{ℕ};
-ghost use lib.Dec.{eqb, leb};
-ghost use lib.ListN.{length, getD};
 ghost use Rattle.std.specs.Options.{Cases, mapped};
 ghost use Rattle.std.specs.declared.option.Option.the-variants.{None, Some};
 ghost use Rattle.words.specs.Rest.{rest, wordsLeft};
@@ -14,11 +11,11 @@ use crate::kinds::read_kinds;
 use crate::reader::Words;
 use crate::tokens::Placed;
 use crate::tokens::Position;
-use crate::tokens::Sign;
 use crate::tokens::Token;
 use crate::tokens::Value;
 use crate::tokens::read_token;
 use relation::columns::Kinds;
+use relation::conditions::Sign;
 
 fn as_name<'a>(token: Token<'a>) -> Option<&'a [u8]>
     ensures { λ r. ⌜ mapped now r ≡ nameIn (means (token .entry)) ⌝ }
@@ -53,7 +50,7 @@ fn as_value<'a>(token: Token<'a>) -> Option<Value<'a>>
     }
 }
 
-fn as_column(token: Token) -> Option<u8>
+fn as_column(token: Token) -> Option<usize>
     ensures { λ r. ⌜ r ≡ columnIn (means (token .entry)) ⌝ }
 {
     match token {
@@ -112,7 +109,7 @@ pub fn take_value<'a>(words: &mut Words<'a>) -> Option<Value<'a>>
     as_value(placed.token)
 }
 
-pub fn take_column<'a>(words: &mut Words<'a>) -> Option<u8>
+pub fn take_column<'a>(words: &mut Words<'a>) -> Option<usize>
     ensures { λ r. ⌜ Cases r (takeColumn (rest (now (words .entry))) ≡ None) (λ k. takeColumn (rest (now (words .entry))) ≡ Some (k, rest (now (words .exit)))) ⌝ }
 {
     let placed = take_token(words, Position::Column)?;
@@ -131,7 +128,7 @@ pub fn take_equals<'a>(words: &mut Words<'a>) -> Option<()>
 {
     match take_sign(words)? {
         Sign::Equal => Some(()),
-        Sign::Unequal | Sign::Less | Sign::AtMost | Sign::Greater | Sign::AtLeast => None,
+        Sign::NotEqual | Sign::Less | Sign::LessEqual | Sign::Greater | Sign::GreaterEqual => None,
     }
 }
 

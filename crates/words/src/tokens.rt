@@ -4,6 +4,7 @@ ghost use Rattle.std.specs.Options.{mapped};
 ghost use Rattle.words.specs.Token.{means, token, columnOf, quotation, shortSign, longSign, signOf};
 use crate::names::is_name;
 use crate::numbers::signed;
+use relation::conditions::Sign;
 use relation::values::is_word;
 
 // What a word would be where it could be a name or a column.
@@ -13,24 +14,13 @@ pub enum Position {
     Column,
 }
 
-// The signs =, !=, <, <=, > and >=.
-#[derive(Clone, Copy, Drop, PartialEq, Eq, Debug)]
-pub enum Sign {
-    Equal,
-    Unequal,
-    Less,
-    AtMost,
-    Greater,
-    AtLeast,
-}
-
 // A word of the text, whose bytes are the text's.
 #[derive(Clone, Copy, Drop)]
 pub enum Token<'a> {
     Name(&'a [u8]),
     Number(i64),
     Quoted(&'a [u8]),
-    Column(u8),
+    Column(usize),
     Sign(Sign),
 }
 
@@ -67,7 +57,7 @@ fn read_column<'a>(word: &'a [u8]) -> Option<Token<'a>>
     ensures { λ r. ⌜ mapped means r ≡ columnOf (now (word .entry)) ⌝ }
 {
     if word.len() == 2 && word[0] == b'c' && b'1' <= word[1] && word[1] <= b'6' {
-        Some(Token::Column(word[1] - b'0'))
+        Some(Token::Column((word[1] - b'0') as usize))
     } else {
         None
     }
@@ -88,9 +78,9 @@ fn long_sign(b: u8) -> Option<Sign>
     ensures { λ r. ⌜ r ≡ longSign b ⌝ }
 {
     match b as char {
-        '!' => Some(Sign::Unequal),
-        '<' => Some(Sign::AtMost),
-        '>' => Some(Sign::AtLeast),
+        '!' => Some(Sign::NotEqual),
+        '<' => Some(Sign::LessEqual),
+        '>' => Some(Sign::GreaterEqual),
         _ => None,
     }
 }

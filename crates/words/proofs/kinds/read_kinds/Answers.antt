@@ -1,14 +1,12 @@
 use mathlib.Core.Path.{_≡_, sym, ap, _∙_}
-use mathlib.Core.Bool.{true, _&&_}
+use mathlib.Core.Bool.{_&&_}
 use mathlib.Core.List.{[], _∷_, _++_, map}
-use Prim.Native.Nat.{_<_}
 use native.Mathlib.Omega.{arith}
 use lib.Dec.{leb}
 use lib.ListN.{length, take, set}
 use Rattle.std.specs.declared.option.Option.the-variants.{Some}
 use Rattle.std.proofs.shelf.Lists.{length-map, length-take-le, map-more, take-all}
 use Rattle.std.proofs.shelf.Tests.{cond-true, and-from, le-leb}
-use Rattle.relation.specs.declared.kinds.Kind.{Kind}
 use Rattle.relation.specs.declared.kinds.Kind.the-variants.{Number}
 use Rattle.relation.specs.declared.columns.Kinds.{Kinds}
 use Rattle.relation.specs.Bounds.{most-columns}

@@ -1,6 +1,6 @@
 use mathlib.Core.Path.{_≡_}
 use mathlib.Core.List.{map}
-use lib.ListN.{take, length}
+use lib.ListN.{take}
 use Rattle.relation.specs.declared.kinds.Kind.the-variants.{Number}
 use Rattle.relation.specs.Bounds.{most-columns}
 use Rattle.relation.specs.Stored.{firsts}

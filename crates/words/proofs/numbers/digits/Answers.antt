@@ -1,4 +1,4 @@
-use mathlib.Core.Path.{_≡_, refl, sym, _∙_}
+use mathlib.Core.Path.{_≡_, sym, _∙_}
 use mathlib.Core.Bool.{true}
 use mathlib.Core.Logic.{_⊎_, inl, inr}
 use Prim.Native.Nat.{_≤_}
@@ -8,7 +8,7 @@ use lib.ListN.{length, getD}
 use Rattle.std.specs.shelf.Text.{allDigits}
 use Rattle.std.proofs.shelf.Lists.{at-drop-more, at-drop-all}
 use Rattle.words.specs.Number.{readOn}
-use Rattle.words.proofs.Numeric.{digits-more, digits-stop, not-plain, too-long, leading-zero, is-plain, refused, read, one-digit-more, short}
+use Rattle.words.proofs.Numeric.{digits-more, digits-stop, not-plain, is-plain, refused, read, one-digit-more, short}
 use Rattle.words.proofs.numbers.digits.Needs as need
 use Rattle.words.proofs.numbers.digits.Needs.{else-ds-gt1·by·then-ds-gt1·else-ds-eq48, else-ds-gt1·by·else-ds-gt1}
 

@@ -1,0 +1,5 @@
+pub mod Listed
+pub mod Tailing
+pub mod Parting
+pub mod Asking
+pub mod Reading

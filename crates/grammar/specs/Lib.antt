@@ -1,0 +1,5 @@
+pub mod Keywords
+pub mod Meaning
+pub mod Said
+pub mod Grammar
+pub mod Language
