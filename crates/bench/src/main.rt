@@ -1,5 +1,7 @@
 // Times coalesce, except and join on a leading column over N random rows, for three N; then tallies in one group and in many, for three more.
 // With no argument it prints only the row counts; with one, how long each job took as well.
+#![tactic(auto)]
+
 use collect::collects::{collect, collect_rows};
 use except::excepts::Except;
 use join::joins::Join;

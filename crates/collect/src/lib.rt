@@ -1,4 +1,6 @@
 // Collecting: the canonical list of any source, made in lent work areas.
+#![tactic(auto)]
+
 pub mod arrange;
 pub mod blanks;
 pub mod coalesce;

@@ -10,6 +10,8 @@
 // and all to the days 10 to 100: watch 10, from day 100 on, is gone.
 // `handovers` has the shared days of watches 4 and 6 (60 to 65), 1 and 3 (30 to 35), 7 and 9 (90 to 95);
 // the first of these lie inside 45 to 75, where the earlier watch is taken away.
+#![tactic(auto)]
+
 ghost use Rattle.collect.specs.Collects.{Collects, first_of, no_collect};
 ghost use Rattle.computed.specs.Handovers.{handovers, handovers_plan, no_handovers};
 ghost use Rattle.computed.specs.Watches.{watches, no_watches};

@@ -1,4 +1,6 @@
 // Reads a script from standard input, prints what its lines say, and whether it is accepted.
+#![tactic(auto)]
+
 mod lines;
 mod parts;
 

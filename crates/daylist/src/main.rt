@@ -1,4 +1,6 @@
 // Reads a list of rows from standard input and prints it coalesced.
+#![tactic(auto)]
+
 use collect::collects::collect_rows;
 use lists::files::read_rows;
 use lists::header::{Header, read_header};

@@ -1,4 +1,6 @@
 // How deep the tree gets for days that come in ascending, in descending and in mixed order.
+#![tactic(auto)]
+
 ghost use Rattle.std.specs.Prelude.{◌≡◌, ◌^◌, ◌<◌, ◌≤◌, length, IfOk, vec_len, slice_index};
 ghost use Rattle.tree.specs.Trees.{Holds, tree_of};
 ghost use Rattle.depth.specs.Heights.{height};

@@ -1,4 +1,6 @@
 // Excepts over tables: small cases, and the whole way from rows to the rows of an except without a `requires`.
+#![tactic(auto)]
+
 use except::excepts::Except;
 use relation::columns::Kinds;
 use relation::refusals::Refusal;

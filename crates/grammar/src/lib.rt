@@ -1,4 +1,6 @@
 // The forms of a script's lines.
+#![tactic(auto)]
+
 pub mod forms;
 pub mod keywords;
 pub mod lines;

@@ -1,4 +1,6 @@
 // Joins small tables and writes the rows of the join, from filled place to filled place.
+#![tactic(auto)]
+
 use join::joins::Join;
 use join::pairs::Pair;
 use relation::columns::Kinds;

@@ -1,4 +1,6 @@
 // Layers: sources over other sources.
+#![tactic(auto)]
+
 pub mod columns;
 pub mod kinds;
 pub mod parts;

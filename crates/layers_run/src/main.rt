@@ -1,4 +1,6 @@
 // Builds every layer over two tables and lists the rows, or says why a layer was refused.
+#![tactic(auto)]
+
 use layers::parts::Part;
 use layers::projects::Project;
 use layers::selects::Select;

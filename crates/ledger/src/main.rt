@@ -1,4 +1,6 @@
 // A workshop's day at two registers: each line of standard input is a call, and each is printed with its answer.
+#![tactic(auto)]
+
 ghost use Rattle.ledger.specs.Histories.{GoesOn};
 
 mod answers;

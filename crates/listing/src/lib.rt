@@ -1,4 +1,6 @@
 // A relation as text, written into lent bytes.
+#![tactic(auto)]
+
 pub mod list;
 mod pen;
 mod rows;

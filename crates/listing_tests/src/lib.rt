@@ -1,4 +1,6 @@
 // Tests of lists as text.
+#![tactic(auto)]
+
 #[cfg(test)]
 mod tests {
     use listing::list::write_list;

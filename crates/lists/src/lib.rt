@@ -1,4 +1,6 @@
 // The lines of a plain list of rows: a header `NAME KINDS`, then a line `FROM UNTIL VALUE ..` for each row.
+#![tactic(auto)]
+
 pub mod files;
 pub mod header;
 pub mod rows;

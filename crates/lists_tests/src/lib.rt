@@ -1,4 +1,6 @@
 // Tests of the readers of words and of a list's lines.
+#![tactic(auto)]
+
 #[cfg(test)]
 mod tests {
     use lists::header::read_header;

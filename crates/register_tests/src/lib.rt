@@ -1,4 +1,6 @@
 // Tests of the register.
+#![tactic(auto)]
+
 #[cfg(test)]
 mod tests {
     use register::registers::Register;

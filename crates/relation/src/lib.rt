@@ -1,4 +1,6 @@
 // The vocabulary: bounds, kinds, rows, refusals, and the theorems on day sets and canonical lists.
+#![tactic(auto)]
+
 pub mod bounds;
 pub mod columns;
 pub mod conditions;

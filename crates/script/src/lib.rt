@@ -1,4 +1,6 @@
 // Scripts, and the check that accepts them.
+#![tactic(auto)]
+
 pub mod check;
 pub mod loads;
 pub mod script;

@@ -1,4 +1,6 @@
 // Tests of the check of scripts.
+#![tactic(auto)]
+
 #[cfg(test)]
 mod tests {
     use grammar::forms::read_line;

@@ -1,4 +1,6 @@
 // Sources: relations that are questioned place by place, and the table over lent rows.
+#![tactic(auto)]
+
 pub mod asks;
 pub mod tables;
 pub mod theorems;

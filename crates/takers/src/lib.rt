@@ -1,4 +1,6 @@
 // Takes what is wanted from the front of a line's words: names, numbers, values, columns, signs, kinds, whole rows.
+#![tactic(auto)]
+
 ghost use Rattle.std.specs.Prelude.{◌≡◌, ℕ, List, ◌∷◌, IfSome, Some, None, MatchOption};
 ghost use Rattle.std.specs.Option.{option_map};
 ghost use Rattle.words.specs.Rest.{rest, words_left};

@@ -1,4 +1,6 @@
 // Tallying: count, sum, least and greatest over the groups of any source, made in lent work areas.
+#![tactic(auto)]
+
 pub mod calls;
 mod checks;
 mod gathers;

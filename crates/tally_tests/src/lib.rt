@@ -1,4 +1,6 @@
 // Tallies of tables and of a project: small cases, and the way from rows to a tallied list without a `requires`.
+#![tactic(auto)]
+
 use layers::projects::Project;
 use relation::columns::Kinds;
 use relation::refusals::Refusal;

@@ -1,5 +1,7 @@
 // Which instruments were out on a day without cover, at what value and at what total?
 // uncovered HIRES COVERS VALUES FROM UNTIL: three lists, the instrument first in each, and a stretch of days.
+#![tactic(auto)]
+
 use anyhow::anyhow;
 use collect::collects::collect_rows;
 use lists::files::read_rows;
