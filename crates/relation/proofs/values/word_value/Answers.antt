@@ -4,5 +4,5 @@ use Rattle.relation.proofs.values.word_value.Goals as goal
 
 pub returns : goal.returns
 returns c =
-    value_read c.args.bytes.now c.copy-from-slice.new.self (length c.args.bytes.now - 0) c.from-be-bytes.result
-    (sym c.if-not-is-word.ensures) c.copy-from-slice.ensures.after c.from-be-bytes.ensures
+    value_read c.args.bytes.now c.copy_from_slice.new.self (length c.args.bytes.now - 0) c.from_be_bytes.result
+    (sym c.if-not-is_word.ensures) c.copy_from_slice.ensures.after c.from_be_bytes.ensures
