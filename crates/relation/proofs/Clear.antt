@@ -1,10 +1,10 @@
 -- What listing order and coalescing say together of two rows: the later has a greater tuple, or begins after a day between.
-use Rattle.std.proofs.Common.{◌≡◌, ℕ, ◌<◌, ◌≤◌, max, ◌⊎◌, List, [], ◌∷◌, length, sym, ap, ◌∙◌, subst, inl, inr, true≢false, arith}
+use Rattle.std.proofs.Common.{◌≡◌, ℕ, ◌<◌, max, ◌⊎◌, List, [], ◌∷◌, sym, ap, ◌∙◌, subst, inl, inr, true≢false, arith}
 use Rattle.std.specs.List.{AllByRecursion as All}
 use Rattle.std.specs.Ordering.{is_lt, ordering_reverse}
 use Rattle.std.specs.Cmp.{int_cmp_total}
 use Rattle.std.proofs.lemmas.Bool.{cases_order}
-use Rattle.relation.specs.Lists.{Any, Pairwise}
+use Rattle.relation.specs.Lists.{Pairwise}
 use Rattle.relation.specs.Sets.{Tuple, Below}
 use Rattle.relation.specs.Rows.{SpecRow, Period, Share, Meet, Ahead, Coalesced, Listed}
 use Rattle.relation.proofs.Held.{In}

@@ -1,5 +1,7 @@
 -- A word's value and its eight bytes, the highest first, as the code has them.
-use Rattle.std.proofs.Common.{◌≡◌, ℕ, ◌+◌, ◌-◌, ◌*◌, ◌/◌, ◌%◌, Bool, true, false, List, [], ◌∷◌, ◌++◌, length, get_or, take, drop, replicate, ℤ, pos, Some, None, Decides, Option, sym, refl, ap, ◌∙◌, subst, div-one, arith, w64, SFits, to_z, of_z, MatchOption}
+use Rattle.std.proofs.Common.{◌≡◌, ℕ, ◌+◌, ◌-◌, ◌*◌, ◌/◌, ◌%◌, Bool, true, false, List, [], ◌∷◌, ◌++◌, length, get_or, take, drop, replicate, ℤ, pos, Some, None, Decides, Option, sym, refl, ap, ◌∙◌, subst, div-one, arith, w64, SFits, to_z, of_z, int_eq}
+use Rattle.std.specs.Option.{option_eq}
+use Rattle.std.proofs.lemmas.Bool.Decides.{Decides-int_eq}
 use native.Mathlib.Nat.{sub-zero}
 use Rattle.std.proofs.lemmas.Int.{to_z_pos, to_z-of_z}
 use Rattle.std.proofs.lemmas.List.{drop-replicate}
@@ -38,12 +40,14 @@ bytes_lowest : (n : ℕ) → bytes n ≡ lowest 8 n
 bytes_lowest n =
     ap (λ (m : ℕ). (n / 72057594037927936 % 256) ∷ (n / 281474976710656 % 256) ∷ (n / 1099511627776 % 256) ∷ (n / 4294967296 % 256) ∷ (n / 16777216 % 256) ∷ (n / 65536 % 256) ∷ (n / 256 % 256) ∷ (m % 256) ∷ []) (sym (div-one n))
 
-some_decides : (o : Option ℤ) (z : ℤ) (r : Bool) → MatchOption o (r ≡ false) (λ x. Decides r (x ≡ z)) → Decides r (o ≡ Some z)
+some_decides : (o : Option ℤ) (z : ℤ) (r : Bool) → r ≡ option_eq int_eq o (Some z) → Decides r (o ≡ Some z)
 some_decides None z r h = (λ e. absurd (both_ways r h e), λ e. absurd (let w : ◌≡◌ {A = ℕ} 0 1 = cc in omega arith))
-some_decides (Some x) z r h = (λ e. ap Some (h.0 e), λ e. h.1 (cc))
+some_decides (Some x) z r h =
+    let d = Decides-int_eq x z in
+    (λ e. ap Some (d.0 (sym h ∙ e)), λ e. h ∙ d.1 (cc))
 
 -- the first bytes of s, len of them, are read as o, and r tells whether that is z
-module _ (z : ℤ) (s : List ℕ) (len : ℕ) (o : Option ℤ) (r : Bool) (fits : SFits w64 z) (b : len ≡ length (front s)) (d : o ≡ word_value (take (len - 0) s)) (same : MatchOption o (r ≡ false) (λ x. Decides r (x ≡ to_z w64 (of_z w64 z)))) where
+module _ (z : ℤ) (s : List ℕ) (len : ℕ) (o : Option ℤ) (r : Bool) (fits : SFits w64 z) (b : len ≡ length (front s)) (d : o ≡ word_value (take (len - 0) s)) (same : r ≡ option_eq int_eq o (Some (to_z w64 (of_z w64 z)))) where
   taken : take len s ≡ front s
   taken = ap (λ (n : ℕ). take n s) b ∙ take_front s
 

@@ -1,8 +1,8 @@
 -- A list is canonical where its rows are periods and each is clear of the later ones; a row more at the end.
-use Rattle.std.proofs.Common.{◌≡◌, ℕ, ◌<◌, ◌≤◌, Bool, true, ◌⊎◌, ◌↔◌, List, [], ◌∷◌, ◌++◌, sym, refl, ◌∙◌, subst, inl, inr, arith}
+use Rattle.std.proofs.Common.{◌≡◌, ◌⊎◌, List, [], ◌∷◌, ◌++◌, sym, ◌∙◌, inl, inr, arith}
 use Rattle.std.specs.List.{AllByRecursion as All}
 use Rattle.std.proofs.ByRecursion.{All-push}
-use Rattle.relation.specs.Lists.{Pairwise, Member}
+use Rattle.relation.specs.Lists.{Pairwise}
 use Rattle.relation.specs.Sets.{Tuple, TupleSet, Same, has}
 use Rattle.relation.specs.Rows.{SpecRow, Period, Share, Meet, Ahead, Coalesced, Listed, Canonical}
 use Rattle.relation.proofs.Clear.{Clear, clear, below_irrefl}

@@ -1,7 +1,7 @@
 -- A canonical list is told by its day sets.
-use Rattle.std.proofs.Common.{◌≡◌, ℕ, ◌<◌, ◌≤◌, ◌⊎◌, ◌↔◌, List, [], ◌∷◌, sym, refl, ◌∙◌, subst, ap₂, inl, inr, arith}
+use Rattle.std.proofs.Common.{◌≡◌, ℕ, ◌<◌, ◌≤◌, ◌⊎◌, List, [], ◌∷◌, sym, refl, ◌∙◌, subst, ap₂, inl, inr, arith}
 use Rattle.std.specs.List.{AllByRecursion as All}
-use Rattle.relation.specs.Lists.{Any, Pairwise, Member}
+use Rattle.relation.specs.Lists.{Pairwise, Member}
 use Rattle.relation.specs.Sets.{Tuple, Below}
 use Rattle.relation.specs.Rows.{SpecRow, Period, on}
 use Rattle.relation.specs.Theorems as theorems

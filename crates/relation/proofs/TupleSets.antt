@@ -1,5 +1,5 @@
 -- What the tests on tuples and sets decide.
-use Rattle.std.proofs.Common.{◌≡◌, ℕ, Bool, true, false, ◌⊎◌, ◌↔◌, List, [], ◌∷◌, ℤ, ◌<ℤ◌, Decides, Ordering, Less, Equal, Greater, sym, refl, ap, ◌∙◌, subst, ap₂, inl, inr, arith}
+use Rattle.std.proofs.Common.{◌≡◌, ℕ, [], ◌∷◌, ℤ, ◌<ℤ◌, Decides, Ordering, Less, Equal, Greater, sym, refl, subst, ap₂, arith}
 use lib.Signed.{<ℤ_irrefl}
 use Rattle.std.specs.Ordering.{is_eq, ordering_then, MatchOrdering, int_cmp}
 use Rattle.std.specs.Cmp.{int_ranks}
@@ -7,7 +7,7 @@ use Rattle.std.specs.Cmp.Lexicographic.{slice_cmp}
 use Rattle.std.proofs.lemmas.Bool.{false≢true}
 use Rattle.std.proofs.lemmas.Bool.Decides.{Decides-or}
 use Rattle.relation.specs.Lists.{Member}
-use Rattle.relation.specs.Sets.{Tuple, TupleSet, Same, equal, has}
+use Rattle.relation.specs.Sets.{Tuple, TupleSet, equal, has}
 
 -- ---- equal tuples
 

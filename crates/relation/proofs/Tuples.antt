@@ -1,9 +1,9 @@
 -- The order of tuples.
-use Rattle.std.proofs.Common.{◌≡◌, ℕ, zero, suc, ◌<◌, Bool, true, false, ◌⊎◌, ◌↔◌, List, [], ◌∷◌, length, get_or, take, ℤ, pos, ◌<ℤ◌, Ordering, Less, Equal, Greater, sym, refl, ap, ◌∙◌, ap₂, inl, inr, true≢false, arith}
+use Rattle.std.proofs.Common.{◌≡◌, ℕ, zero, suc, ◌<◌, ◌⊎◌, [], ◌∷◌, length, get_or, take, ℤ, pos, ◌<ℤ◌, Ordering, Less, Equal, Greater, sym, refl, ap, ◌∙◌, ap₂, inl, inr, true≢false, arith}
 use Rattle.std.specs.Ordering.{is_lt, ordering_then, MatchOrdering, ordering_reverse, int_cmp}
-use Rattle.std.specs.Cmp.{int_cmp_total, int_ranks}
+use Rattle.std.specs.Cmp.{int_cmp_total, int_ranks, int_cmp_is}
 use Rattle.std.specs.Cmp.Lexicographic.{slice_cmp, lists_total}
-use Rattle.relation.specs.Sets.{Tuple, Below, equal}
+use Rattle.relation.specs.Sets.{Tuple, Below}
 use Rattle.relation.specs.Theorems as theorems
 use Rattle.relation.proofs.TupleSets.{equal_decides}
 
@@ -24,10 +24,10 @@ found (x ∷ xs) (y ∷ ys) e b = found_more x y xs ys (int_cmp x y) (int_ranks 
 decided : (s t : Tuple) (k : ℕ) → k < length s → length s ≡ length t → take k s ≡ take k t → get_or s k (pos 0) <ℤ get_or t k (pos 0) → Below s t
 decided [] t k l e h c = absurd (omega arith)
 decided (x ∷ xs) [] k l e h c = absurd (omega arith)
-decided (x ∷ xs) (y ∷ ys) zero l e h c = ap (λ o. ordering_then o (slice_cmp int_cmp xs ys)) (sym (int_cmp_total.says x y Less c))
+decided (x ∷ xs) (y ∷ ys) zero l e h c = ap (λ o. ordering_then o (slice_cmp int_cmp xs ys)) (sym (int_cmp_is x y Less c))
 decided (x ∷ xs) (y ∷ ys) (suc k) l e h c =
     let same : x ≡ y = cc in
-    ap (λ o. ordering_then o (slice_cmp int_cmp xs ys)) (sym (int_cmp_total.says x y Equal same)) ∙ decided xs ys k (omega arith) (omega arith) (cc) c
+    ap (λ o. ordering_then o (slice_cmp int_cmp xs ys)) (sym (int_cmp_is x y Equal same)) ∙ decided xs ys k (omega arith) (omega arith) (cc) c
 
 pub first_difference : theorems.FirstDifference
 first_difference s t e = (found s t e, λ d. decided s t d.0 d.1.0 e d.1.1 d.1.2)

@@ -1,4 +1,4 @@
-use Rattle.std.proofs.Common.{◌≡◌, ◌<◌, get_or, set, pos, ap, ◌∙◌, add-one, arith, w64, SFits, rules}
+use Rattle.std.proofs.Common.{◌≡◌, ◌<◌, get_or, pos, ap, ◌∙◌, add-one, arith, w64, SFits, rules}
 use Rattle.std.proofs.lemmas.Int.{to_z-of_z}
 use Rattle.relation.specs.Bounds.{most_columns}
 use Rattle.relation.specs.Stored.{firsts}

@@ -1,4 +1,4 @@
-use Rattle.std.proofs.Common.{◌≡◌, length, pos}
+use Rattle.std.proofs.Common.{◌≡◌, pos}
 use Rattle.relation.specs.Bounds.{most_columns}
 use Rattle.relation.specs.Stored.{firsts}
 use Rattle.relation.proofs.rows.Row.trimmed.Given as goal
