@@ -1,8 +1,8 @@
 #!/usr/bin/env python3
 """Applies each edit of this folder to a copy of the repository, and sees that the compiler ends with the error that it names.
 
-The compiler alone is run, over the sources of the crate and of those that it depends on: what it refuses it refuses before any proof.
-Each crate is compiled without an edit first, so that an error can only come from the edit."""
+A crate is compiled without any proof (`rt try`), so what is refused is refused before any proof.
+Each crate is compiled and run without an edit first, so that an error can only come from the edit."""
 import pathlib
 import shutil
 import subprocess
@@ -11,57 +11,45 @@ import tempfile
 
 FOLDER = pathlib.Path(__file__).resolve().parent
 ROOT = FOLDER.parent
-KIT = pathlib.Path(subprocess.run(["rt", "doc"], capture_output=True, text=True, check=True).stdout.strip()).parent.parent
-
-
-def dependencies():
-    lines = (line.split("#")[0].strip() for line in (ROOT / "crates.txt").read_text().split("\n"))
-    return {name.strip(): used.split() for name, used in (line.split(":") for line in lines if line)}
-
-
-def reached(crate, table):
-    """The crates that a crate depends on, each behind those that it needs itself."""
-    found = []
-    for used in table[crate]:
-        found += [name for name in reached(used, table) + [used] if name not in found]
-    return found
 
 
 def compile_crate(copy, crate):
-    table = dependencies()
-    words = [str(KIT / "bin" / "rattle-print-mir"), str(copy / "crates" / crate / "src" / "main.rt"), "--crate-name", crate]
-    words += ["--extern", f"std={KIT}/rlib/std.rlib", "-L", f"dependency={KIT}/rlib"]
-    for used in reached(crate, table):
-        words += ["--lib", f"{used}={copy}/crates/{used}/src/lib.rt"]
-    return subprocess.run(words, capture_output=True, text=True)
+    """Whether the crate compiles, and what was said."""
+    run = subprocess.run(["rt", "try"], cwd=copy / "crates" / crate, stdin=subprocess.DEVNULL, capture_output=True, text=True)
+    said = run.stdout + run.stderr
+    return "run=ended" in said, said
 
 
-def refused(edit, copy):
+def refused(edit, copy, whole):
     part = dict(line.split(": ", 1) for line in edit.read_text().strip().split("\n"))
     path = copy / "crates" / part["crate"] / part["file"]
     text = path.read_text()
     if text.count(part["old"]) != 1:
         print(f"{edit.name}: the old text does not stand once in {path}")
         return False
-    whole = compile_crate(copy, part["crate"])
-    if whole.returncode != 0:
-        print(f"{edit.name}: {part['crate']} does not compile without the edit\n{whole.stderr}")
+    if part["crate"] not in whole:
+        whole[part["crate"]] = compile_crate(copy, part["crate"])
+    compiles, said = whole[part["crate"]]
+    if not compiles:
+        print(f"{edit.name}: {part['crate']} does not compile without the edit\n{said}")
         return False
     path.write_text(text.replace(part["old"], part["new"]))
-    run = compile_crate(copy, part["crate"])
+    compiles, said = compile_crate(copy, part["crate"])
     path.write_text(text)
-    said = run.returncode == 1 and f"error[{part['error']}]" in run.stderr
-    print(f"{edit.name}: {'refused by' if said else 'NOT refused by'} {part['error']}")
-    if not said:
-        print(run.stderr)
-    return said
+    right = not compiles and f"error[{part['error']}]" in said
+    print(f"{edit.name}: {'refused by' if right else 'NOT refused by'} {part['error']}", flush=True)
+    if not right:
+        print(said)
+    return right
 
 
 def main():
     with tempfile.TemporaryDirectory() as folder:
         copy = pathlib.Path(folder) / "copy"
-        shutil.copytree(ROOT / "crates", copy / "crates")
-        return all([refused(edit, copy) for edit in sorted(FOLDER.glob("*.edit"))])
+        shutil.copytree(ROOT / "crates", copy / "crates", ignore=shutil.ignore_patterns("out"))
+        shutil.copy(ROOT / "crates.txt", copy / "crates.txt")
+        whole = {}
+        return all([refused(edit, copy, whole) for edit in sorted(FOLDER.glob("*.edit"))])
 
 
 if __name__ == "__main__":
