@@ -1,7 +1,7 @@
 -- Lemmas on the order of tuples by their first values.
 use Rattle.std.proofs.Common.{◌≡◌, ℕ, zero, suc, ◌≤◌, min, ◌⊎◌, List, [], ◌∷◌, length, take, ℤ, ◌<ℤ◌, Ordering, Less, Equal, Greater, sym, refl, ap, ◌∙◌, inl, inr, true≢false, arith}
 use Rattle.std.specs.Ordering.{is_lt, is_gt, ordering_then, MatchOrdering, ordering_reverse, int_cmp}
-use Rattle.std.specs.Cmp.{int_cmp_total, int_ranks}
+use Rattle.std.specs.Cmp.{int_cmp_total, int_ranks, int_cmp_is}
 use Rattle.std.specs.Cmp.Lexicographic.{slice_cmp, lists_total}
 use Rattle.std.proofs.lemmas.List.{take_all}
 use Rattle.relation.specs.Sets.{Tuple, Below}
@@ -31,7 +31,7 @@ leading_whole t lead h = ap (λ s. slice_cmp int_cmp s lead) (take_all (length l
 pub begins_equal : (lead t : Tuple) → Begins lead t → leading t lead ≡ Equal
 begins_equal [] t b = refl
 begins_equal (z ∷ zs) [] b = absurd b
-begins_equal (z ∷ zs) (x ∷ xs) b = ap (λ o. ordering_then o (leading xs zs)) (sym (int_cmp_total.says x z Equal (sym b.0))) ∙ begins_equal zs xs b.1
+begins_equal (z ∷ zs) (x ∷ xs) b = ap (λ o. ordering_then o (leading xs zs)) (sym (int_cmp_is x z Equal (sym b.0))) ∙ begins_equal zs xs b.1
 
 begins_more : (x z : ℤ) (xs zs : Tuple) (k : Ordering) → MatchOrdering k (x <ℤ z) (x ≡ z) (z <ℤ x) → ordering_then k (leading xs zs) ≡ Equal → (leading xs zs ≡ Equal → Begins zs xs) → (z ≡ x) × Begins zs xs
 begins_more x z xs zs Less h e f = absurd (true≢false (ap is_lt e))

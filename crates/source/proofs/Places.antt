@@ -1,11 +1,10 @@
 -- Lemmas on the rows of a source's places.
-use Rattle.std.proofs.Common.{◌≡◌, ℕ, zero, suc, ◌<◌, ◌≤◌, ◌⊎◌, ◌↔◌, List, [], ◌∷◌, ◌++◌, Some, None, Option, sym, refl, ap, ◌∙◌, subst, inl, inr, ⊎_elim, arith}
+use Rattle.std.proofs.Common.{◌≡◌, ℕ, zero, suc, ◌<◌, ◌⊎◌, List, [], ◌∷◌, ◌++◌, Some, None, Option, sym, refl, ap, ◌∙◌, subst, inl, inr, ⊎_elim, arith}
 use Rattle.std.proofs.lemmas.Bool.{cases_lt}
-use Rattle.relation.specs.Lists.{Any, Member}
-use Rattle.relation.specs.Sets.{Tuple}
+use Rattle.relation.specs.Lists.{Any}
 use Rattle.relation.specs.Rows.{SpecRow, Holds}
-use Rattle.relation.proofs.Held.{In, day_set as held}
-use Rattle.source.specs.Meaning.{Meaning, Sound, On, filled?, rows_below, rows_of, day_set}
+use Rattle.relation.proofs.Held.{day_set as held}
+use Rattle.source.specs.Meaning.{Meaning, filled?, rows_below, rows_of}
 use Rattle.source.specs.Theorems as theorems
 
 any_left : {X : Type 0} (P : X → Type 0) (xs ys : List X) → Any P xs → Any P (xs ++ ys)

@@ -16,7 +16,7 @@ use Rattle.relation.specs.Lists.{Pairwise}
 use Rattle.relation.specs.Rows.{SpecRow, Ahead, Listed}
 use Rattle.relation.specs.Stored.{meant}
 use Rattle.relation.proofs.Clear.{below_asym, below_irrefl}
-use Rattle.source.specs.Meaning.{Meaning, NoneLed, Begins}
+use Rattle.source.specs.Meaning.{Meaning, Begins}
 use Rattle.source.specs.Tables.{table, no_row, Rising, leading, Leads, LowerBound, NextLed}
 use Rattle.source.proofs.Leads.{less_back, greater_on, begins_equal, equal_begins}
 use Rattle.source.proofs.TableRows.{row_in, filled_at}

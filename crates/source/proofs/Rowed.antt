@@ -1,5 +1,5 @@
 -- A row put together from the answers of its columns.
-use Rattle.std.proofs.Common.{◌≡◌, ℕ, zero, suc, ◌+◌, ◌<◌, ◌≤◌, true, List, [], ◌∷◌, length, get_or, set, ℤ, pos, Some, None, Option, sym, refl, ap, ◌∙◌, add-one, arith}
+use Rattle.std.proofs.Common.{◌≡◌, ℕ, ◌+◌, ◌<◌, true, List, length, set, ℤ, pos, Some, None, Option, sym, refl, ap, ◌∙◌, add-one, arith}
 use Rattle.relation.specs.declared.kinds.Kind.{Kind}
 use Rattle.relation.specs.Bounds.{most_columns}
 use Rattle.relation.specs.Rows.{SpecRow}

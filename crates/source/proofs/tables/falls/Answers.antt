@@ -12,7 +12,7 @@ returns c =
     let six : length c.args.row.now.values ≡ 6 = search rules in
     let next = (meant n c.args.next.now).tuple in
     let row = (meant n c.args.row.now).tuple in
-    c.is-lt.ensures
-    ∙ ap is_lt (c.compare-lead.ensures
+    c.is_lt.ensures
+    ∙ ap is_lt (c.compare_lead.ensures
     ∙ ap (leading next) (firsts_take n (n - 0) c.args.row.now.values (pos 0) (omega arith) (omega arith))
     ∙ leading_whole next row (omega (arith, length_firsts n c.args.next.now.values (pos 0), length_firsts n c.args.row.now.values (pos 0))))

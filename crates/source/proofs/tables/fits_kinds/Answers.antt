@@ -1,4 +1,4 @@
-use Rattle.std.proofs.Common.{◌≡◌, get_or, pos, sym, ap, ◌∙◌, arith, w64, SFits, rules, below_more}
+use Rattle.std.proofs.Common.{get_or, pos, sym, ap, ◌∙◌, arith, w64, SFits, rules, below_more}
 use Rattle.std.proofs.lemmas.Int.{to_z-of_z}
 use Rattle.relation.specs.declared.kinds.Kind.TheVariants.{Number}
 use Rattle.relation.specs.Values.{in_kind}

@@ -4,8 +4,8 @@ use Rattle.source.specs.Tables.{no_row}
 use Rattle.source.proofs.TableRows.{row_in, few_columns}
 use Rattle.source.proofs.tables.Table.compare.Goals as goal
 
-pub compare-lead-requires : goal.compare-lead-requires
-compare-lead-requires c = few_columns c.args.self.now.rows.now c.args.self.now.start c.args.self.now.len c.args.self.now.kinds c.requires.accepted.sound
+pub compare_lead-requires : goal.compare_lead-requires
+compare_lead-requires c = few_columns c.args.self.now.rows.now c.args.self.now.start c.args.self.now.len c.args.self.now.kinds c.requires.accepted.sound
 
 pub returns : goal.returns
 returns c =
@@ -13,5 +13,5 @@ returns c =
     record {
       row = meant s.kinds.count (get_or s.rows.now c.args.k no_row);
       there = sym (row_in s.rows.now s.start s.len s.kinds c.args.k no_row (omega arith) (omega arith) (omega arith));
-      order = c.compare-lead.ensures;
+      order = c.compare_lead.ensures;
     }

@@ -6,14 +6,14 @@ use Rattle.source.proofs.tables.Table.lower_bound.Goals as goal
 pub loop-low-init : goal.loop-low-init
 loop-low-init c = (omega arith, omega arith, omega arith, λ p w a b e. absurd (omega arith), λ p w a b e less. omega arith)
 
-pub loop-low-preserved-then-is-lt : goal.loop-low-preserved-then-is-lt
-loop-low-preserved-then-is-lt c =
+pub loop-low-preserved-then-is_lt : goal.loop-low-preserved-then-is_lt
+loop-low-preserved-then-is_lt c =
     let s = c.args.self.now in
     let i = c.loop-low.invariant in (
       omega arith,
       omega arith,
       omega arith,
-      λ p w a b. before_more (table s.rows.now s.start s.len s.kinds) c.args.lead.now (c.requires.accepted.order c.requires.known) _ c.compare.result c.compare.ensures c.if-is-lt.ensures p w b,
+      λ p w a b. before_more (table s.rows.now s.start s.len s.kinds) c.args.lead.now (c.requires.accepted.order c.requires.known) _ c.compare.result c.compare.ensures c.if-is_lt.ensures p w b,
       i.4,
     )
 
@@ -25,7 +25,7 @@ loop-low-preserved c =
       omega arith,
       omega arith,
       i.3,
-      λ p w a b. after_more (table s.rows.now s.start s.len s.kinds) c.args.lead.now (c.requires.accepted.order c.requires.known) _ c.compare.result c.compare.ensures c.if-is-lt.ensures p w a,
+      λ p w a b. after_more (table s.rows.now s.start s.len s.kinds) c.args.lead.now (c.requires.accepted.order c.requires.known) _ c.compare.result c.compare.ensures c.if-is_lt.ensures p w a,
     )
 
 pub returns : goal.returns

@@ -1,4 +1,4 @@
-use Rattle.std.proofs.Common.{sym, ◌∙◌, arith}
+use Rattle.std.proofs.Common.{sym, arith}
 use Rattle.relation.specs.declared.kinds.Kind.TheVariants.{Number}
 use Rattle.source.proofs.Cells.{cell_firsts, cell_beyond}
 use Rattle.relation.proofs.Firsts.{length_firsts}

@@ -1,4 +1,4 @@
-use Rattle.std.proofs.Common.{◌≡◌, ◌-◌, ◌≤◌, get_or, pos, Some, sym, ap, ◌∙◌, arith, w64, SFits, rules}
+use Rattle.std.proofs.Common.{◌-◌, ◌≤◌, get_or, pos, Some, sym, ap, ◌∙◌, arith, w64, SFits, rules}
 use Rattle.relation.specs.declared.kinds.Kind.TheVariants.{Number}
 use Rattle.std.proofs.lemmas.Int.{to_z-of_z}
 use Rattle.source.specs.Meaning.{value?}
@@ -22,5 +22,5 @@ returns-else-c-ge1 c =
 pub bounds-row-c : goal.bounds-row-c
 bounds-row-c c = omega (arith, length_firsts c.args.self.now.kinds.count c.args.self.now.kinds.at Number, c.requires.sound.few_kinds)
 
-pub offset-bounds-row-c : goal.offset-bounds-row-c
-offset-bounds-row-c c = let few : c.args.self.now.kinds.count ≤ 6 = omega (arith, length_firsts c.args.self.now.kinds.count c.args.self.now.kinds.at Number, c.requires.sound.few_kinds) in search rules
+pub offset_bounds-row-c : goal.offset_bounds-row-c
+offset_bounds-row-c c = let few : c.args.self.now.kinds.count ≤ 6 = omega (arith, length_firsts c.args.self.now.kinds.count c.args.self.now.kinds.at Number, c.requires.sound.few_kinds) in search rules
