@@ -1,7 +1,7 @@
 -- The readers of a list's lines agree with what is written there.
 use Rattle.std.proofs.Common.{◌≡◌, ℕ, ◌<◌, ◌≤◌, Bool, true, false, T, ltb, leb, List, [], ◌∷◌, map, length, ℤ, pos, negsuc, nat_abs, IfErr, Some, None, Ok, Err, Option, Result, sym, refl, ap, ◌∙◌, subst, ⊎_elim, arith, MatchResult}
 use lib.Signed.{le_z}
-use Rattle.std.specs.List.{AllByRecursion as All}
+use Rattle.std.specs.List.{AllByRecursion as AllOf}
 use Rattle.std.proofs.lemmas.Bool.{cond-true, cond-false, and_parts, and_from, leb-true, le-leb, ltb-true, lt-ltb, cases_Bool, true≢false}
 use Rattle.relation.specs.declared.kinds.Kind.{Kind}
 use Rattle.relation.specs.declared.kinds.Kind.TheVariants as kind
@@ -141,7 +141,7 @@ bounded_is : (v : Val) → InBounds v → bounded (Some v) ≡ true
 bounded_is (number_val z) h = and_from _ _ (truth _ h.0.le) (truth _ h.1.le)
 bounded_is (word_val q) h = refl
 
-bounds_told : (ts : List Text) (vs : List Val) → WritesValues ts vs → all_bounded ts ≡ true → All InBounds vs
+bounds_told : (ts : List Text) (vs : List Val) → WritesValues ts vs → all_bounded ts ≡ true → AllOf InBounds vs
 bounds_told [] [] h e = tt
 bounds_told [] (v ∷ vs) h e = absurd h
 bounds_told (t ∷ ts) [] h e = absurd h
@@ -149,7 +149,7 @@ bounds_told (t ∷ ts) (v ∷ vs) h e =
     let p = and_parts (bounded_word t) _ e in
     (bounded_told v (sym (ap bounded (value_is t v h.0)) ∙ p.0), bounds_told ts vs h.1 p.1)
 
-bounds_are : (ts : List Text) (vs : List Val) → WritesValues ts vs → All InBounds vs → all_bounded ts ≡ true
+bounds_are : (ts : List Text) (vs : List Val) → WritesValues ts vs → AllOf InBounds vs → all_bounded ts ≡ true
 bounds_are [] [] h e = refl
 bounds_are [] (v ∷ vs) h e = absurd h
 bounds_are (t ∷ ts) [] h e = absurd h
