@@ -1,7 +1,7 @@
 -- The stretches of a group's cuts give the amounts on each day.
 use Rattle.std.proofs.Common.{◌≡◌, ℕ, zero, suc, ◌+◌, ◌<◌, ◌≤◌, Bool, true, false, cond, ◌&&◌, ltb, leb, ◌⊎◌, List, [], ◌∷◌, length, get_or, pos, filter, sym, refl, ap, ◌∙◌, subst, inl, inr, add-one, arith}
 use lib.Signed.{lt_z}
-use Rattle.std.specs.List.{AllByRecursion as All}
+use Rattle.std.specs.List.{AllByRecursion as AllOf}
 use Rattle.std.proofs.ByRecursion.{All-get_or}
 use Rattle.std.proofs.lemmas.Bool.{cases_lt, le-leb, lt-leb, lt-ltb, le-ltb, true≢false}
 use Rattle.relation.specs.declared.rows.Row.{Row}
@@ -19,7 +19,7 @@ use Rattle.cuts.proofs.Stretching.{From, stretch_listed}
 
 -- ---- rows that hold a day
 
-kept_same : (p q : Row → Bool) (ws : List Row) → All (λ w. p w ≡ q w) ws → filter p ws ≡ filter q ws
+kept_same : (p q : Row → Bool) (ws : List Row) → AllOf (λ w. p w ≡ q w) ws → filter p ws ≡ filter q ws
 kept_same p q [] h = refl
 kept_same p q (w ∷ ws) h = λ k. cond (h.0 k) (w ∷ kept_same p q ws h.1 k) (kept_same p q ws h.1 k)
 
@@ -102,7 +102,7 @@ module _ (m : Measure) (ws cs : List Row) (told : Told m ws cs) where
         let same = constant f.j d f.within low high in
         (holder ws d (ap some? same ∙ sym s.rows ∙ f.some), ap (λ r. r.values) f.is ∙ ap (tuple_by group by) (s.amount_is ∙ ap (amount m) (sym same)))
 
-    pub stretch_period : All (λ r. Period (bare r)) ws → Period (bare w)
+    pub stretch_period : AllOf (λ r. Period (bare r)) ws → Period (bare w)
     stretch_period periods =
         let s = says f.j f.within f.ahead in
         let h = holder ws (day f.j) (sym s.rows ∙ f.some) in

@@ -1,7 +1,7 @@
 -- A tallied group in the area.
 use Rattle.std.proofs.Common.{◌≡◌, ℕ, ◌+◌, ◌-◌, ◌*◌, ◌<◌, ◌≤◌, ◌⊎◌, List, length, get_or, take, sym, ap, ◌∙◌, subst, inl, inr, arith}
 use borrow.Rule.Slice.PartMut.{put_mid}
-use Rattle.std.specs.List.{between, AllByRecursion as All}
+use Rattle.std.specs.List.{between, AllByRecursion as AllOf}
 use Rattle.std.proofs.lemmas.List.Edits.{length-between, get_or-between}
 use Rattle.std.proofs.ByRecursion.{All-weaker}
 use Rattle.std.proofs.lemmas.List.{get_or-take, length-take-le}
@@ -42,7 +42,7 @@ module _ (m : Measure) (rows : List Row) (from upto base : ℕ) (by : List ℕ) 
   abbrev group : Row
   group = get_or rows from no_row
 
-  all_periods_lem : All (λ w. Period (bare w)) ws
+  all_periods_lem : AllOf (λ w. Period (bare w)) ws
   all_periods_lem = all_part (λ w. Period (bare w)) rows no_row from upto periods (omega arith)
 
   told : Told m ws cs

@@ -1,6 +1,6 @@
 // One group of a tally.
 ghost use Rattle.std.specs.Prelude.{◌≡◌, ℕ, ◌+◌, ◌-◌, ◌*◌, ◌^◌, ◌<◌, ◌≤◌, ◌⊎◌, length, get_or, slice_index_or};
-ghost use Rattle.std.specs.List.{between, AllByRecursion as All};
+ghost use Rattle.std.specs.List.{between, AllByRecursion as AllOf};
 ghost use Rattle.relation.specs.Bounds.{most_columns};
 ghost use Rattle.relation.specs.Rows.{Period, Holds};
 ghost use Rattle.collect.specs.Areas.{no_row, bare};
@@ -34,7 +34,7 @@ fn measure_cuts(
     requires fits { Fits measure }
     requires few { length (between base end rows.old) ≤ most_cuts }
     requires rises { Rises (between base end rows.old) }
-    requires small { All Small (between base end rows.old) }
+    requires small { AllOf Small (between base end rows.old) }
     ensures { rows.new ≡ over rows.old base end (measured measure (between from upto rows.old) (between base end rows.old)) }
 {
     match measure {
@@ -60,7 +60,7 @@ fn cut_days(
     requires few_nodes { length nodes.old < 2 ^ 32 }
     requires few_rows { upto - from ≤ most_rows }
     requires fits { Fits measure }
-    requires within { All (Within measure) (between from upto rows.old) }
+    requires within { AllOf (Within measure) (between from upto rows.old) }
     ensures { rows.new ≡ over rows.old base (base + 2 * (upto - from)) (cut_days measure (between from upto rows.old)) }
 {
     let end = base + 2 * (upto - from);

@@ -9,7 +9,7 @@ use Rattle.relation.specs.Rows.{SpecRow}
 use Rattle.relation.proofs.TupleSets.{has_decides}
 use Rattle.source.specs.Meaning.{Meaning, Sound, On, day_set}
 use Rattle.source.proofs.Places.{day_set_of_places}
-use Rattle.except.specs.Blockers.{span, candidate, blocked, repeated, stop, piece_from}
+use Rattle.except.specs.Blockers.{span, blocked, repeated, stop, piece_from}
 use Rattle.except.specs.Excepts.{dated, pieced, excepted}
 use Rattle.except.specs.Sounds.{pieced_parts, candidate_inside, stop_after, excepted_sound}
 use Rattle.except.specs.Theorems.{DaySetsExcepted}

@@ -1,6 +1,5 @@
 -- Except: what is left of each row of a once the days of its blockers in b are taken out.
-use Rattle.std.specs.Prelude.{◌≡◌, ℕ, ◌+◌, ◌*◌, ◌/◌, ◌%◌, ◌<◌, ◌≤◌, Bool, true, false, cond, not, ◌&&◌, List, [], ◌∷◌, Some, None, Option, nat_le}
-use Rattle.relation.specs.declared.kinds.Kind.{Kind}
+use Rattle.std.specs.Prelude.{◌≡◌, ℕ, ◌+◌, ◌*◌, ◌/◌, ◌%◌, ◌<◌, ◌≤◌, cond, not, Some, None, Option, nat_le}
 use Rattle.relation.specs.declared.refusals.Reason.{Reason}
 use Rattle.relation.specs.declared.refusals.Reason.TheVariants.{Misfit, TooManyPlaces}
 use Rattle.relation.specs.Bounds.{most_places}

@@ -27,8 +27,8 @@ grown t c =
     let e : height (tree_of c.args.nodes.now c.args.link) ≡ _ = ap height (parts _ _ c.requires.holds c.if-link-eq0.false).tree_is in
     omega (arith, e, c.max.ensures, c.depth-left.ensures, c.depth-right.ensures)
 
-pub overflow-add-result : goal.overflow-add-result
-overflow-add-result t c = omega (arith, grown t (goal.at.overflow-add-result t c).After-max, height_size (tree_of c.args.nodes.now c.args.link), c.requires.holds.small)
+pub overflow_add-result : goal.overflow_add-result
+overflow_add-result t c = omega (arith, grown t (goal.at.overflow_add-result t c).After-max, height_size (tree_of c.args.nodes.now c.args.link), c.requires.holds.small)
 
 pub returns : goal.returns
 returns t c = grown t (goal.at.returns t c).After-max
