@@ -3,8 +3,8 @@ use Rattle.std.proofs.Common.{◌≡◌, ℕ, ◌+◌, ◌-◌, ◌≤◌, eqb, 
 use Rattle.std.specs.List.{AllByRecursion as All}
 use Rattle.std.proofs.lemmas.List.{length-append}
 use Rattle.std.proofs.lemmas.Bool.{cond-true, cond-false, eq-eqb, ne_eqb, cases_eq}
-use Rattle.words.specs.Words.{Cut, ended, words_from, words}
-use Rattle.words.specs.Lines.{closed, lines_from, lines}
+use Rattle.words.specs.Words.{Cut, ended, words_from}
+use Rattle.words.specs.Lines.{closed, lines_from}
 use Rattle.words.specs.Parted.{Apart, Parted, WordsParted, Ended, LinesEnded}
 
 -- ---- what stands there is cut
