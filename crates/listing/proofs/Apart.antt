@@ -1,5 +1,5 @@
 -- Two lists have one text only if they are one.
-use Rattle.std.proofs.Common.{◌≡◌, ℕ, zero, suc, ◌^◌, ◌<◌, ◌≤◌, true, ◌&&◌, leb, List, [], ◌∷◌, ◌++◌, map, length, ℤ, pos, negsuc, Some, decimal, Option, sym, refl, ap, ◌∙◌, ap₂, append_assoc, arith}
+use Rattle.std.proofs.Common.{◌≡◌, ℕ, suc, ◌^◌, ◌<◌, ◌≤◌, true, leb, List, [], ◌∷◌, ◌++◌, map, length, ℤ, pos, negsuc, Some, decimal, Option, sym, refl, ap, ◌∙◌, ap₂, append_assoc, arith}
 use lib.Signed.{mag}
 use Rattle.std.specs.List.{flat_map, AllByRecursion as All}
 use Rattle.std.specs.Str.{all_ascii_digits}
@@ -13,13 +13,12 @@ use Rattle.std.proofs.lemmas.Bool.{and_parts}
 use Rattle.std.proofs.lemmas.Bool.Decides.{nat_tests}
 use Rattle.relation.specs.declared.kinds.Kind.{Kind}
 use Rattle.relation.specs.declared.kinds.Kind.TheVariants as kind
-use Rattle.relation.specs.Bounds.{word_bytes}
 use Rattle.relation.specs.Lists.{every}
 use Rattle.relation.specs.Rows.{SpecRow, Period}
 use Rattle.relation.specs.Values.{word_byte, is_word, word_text, word_value, InKind, Number, Word}
 use Rattle.relation.proofs.Spelled.{words_inverse}
-use Rattle.listing.specs.Text.{space, line_end, quote, letter, spelled, value_text, values_text, row_text, header_text, list_text}
-use Rattle.listing.specs.Theorems.{Held, Listable, ListsDiffer}
+use Rattle.listing.specs.Text.{space, line_end, quote, letter, spelled, value_text, values_text, row_text, list_text}
+use Rattle.listing.specs.Theorems.{Held, ListsDiffer}
 use Rattle.listing.proofs.Read.{decimals_read}
 
 -- ---- a text that ends before a space or a line's end
