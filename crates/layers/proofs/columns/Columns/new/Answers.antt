@@ -30,6 +30,6 @@ returns c =
     let cs = c.args.columns.now in
     let n = c.args.last in
     let i = c.loop-i.i in (
-      all_columns_lem n cs c.if-count-lt1.false c.if-count-gt-MOST-COLUMNS.false (sym c.loop-i.invariant.1 ∙ every_end (is_column n) cs 0 i c.loop-i-test.false),
+      all_columns_lem n cs c.if-count-lt1.false c.if-count-gt-MOST_COLUMNS.false (sym c.loop-i.invariant.1 ∙ every_end (is_column n) cs 0 i c.loop-i-test.false),
       ap (λ (at : List ℕ). firsts (length cs) at 0) c.loop-i.invariant.0 ∙ chosen_all cs i (omega arith) (omega arith),
     )

@@ -8,9 +8,9 @@ meets-requires g c = let s = c.args.self.now in names_in_row (g.S.Source.meaning
 pub returns-then-meets : goal.returns-then-meets
 returns-then-meets g c =
     let s = c.args.self.now in
-    row_kept (g.S.Source.meaning s.source) s.condition (g.S.Source.sound s.source c.requires.below) c.requires.allowed c.args.k c.in-ok-row.row true c.in-ok-row.ensures c.if-meets.ensures
+    row_kept (g.S.Source.meaning s.source) s.condition (g.S.Source.sound s.source c.requires.below) c.requires.allowed c.args.k c.in_ok-row.row true c.in_ok-row.ensures c.if-meets.ensures
 
 pub returns-else-meets : goal.returns-else-meets
 returns-else-meets g c =
     let s = c.args.self.now in
-    row_kept (g.S.Source.meaning s.source) s.condition (g.S.Source.sound s.source c.requires.below) c.requires.allowed c.args.k c.in-ok-row.row false c.in-ok-row.ensures c.if-meets.ensures
+    row_kept (g.S.Source.meaning s.source) s.condition (g.S.Source.sound s.source c.requires.below) c.requires.allowed c.args.k c.in_ok-row.row false c.in_ok-row.ensures c.if-meets.ensures

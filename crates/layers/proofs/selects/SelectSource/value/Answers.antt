@@ -6,4 +6,4 @@ use Rattle.layers.proofs.selects.SelectSource.value.Goals as goal
 pub returns : goal.returns
 returns g c =
     let s = c.args.self.now in
-    c.value.ensures ∙ ap (λ o. value? o c.args.c) (sym (kept_whole s.condition ((g.S.Source.meaning s.source).at c.args.k) c.in-ok-row.field-0 c.in-ok-row.ensures))
+    c.value.ensures ∙ ap (λ o. value? o c.args.c) (sym (kept_whole s.condition ((g.S.Source.meaning s.source).at c.args.k) c.in_ok-row.field-0 c.in_ok-row.ensures))
