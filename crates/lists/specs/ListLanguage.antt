@@ -1,5 +1,5 @@
 -- The lines of a list as they are written, what they say, and what is wrong with a line that is refused.
-use Rattle.std.specs.Prelude.{◌≡◌, ℕ, ◌≤◌, ◌↔◌, List, [], ◌∷◌, length, ℤ, pos, IfErr, Ok, Result}
+use Rattle.std.specs.Prelude.{◌≡◌, ◌≤◌, ◌↔◌, List, [], ◌∷◌, length, ℤ, pos, IfErr, Ok, Result}
 use Rattle.std.specs.List.{AllByRecursion as All}
 use Rattle.relation.specs.declared.kinds.Kind.{Kind}
 use Rattle.relation.specs.declared.kinds.Kind.TheVariants as kind
