@@ -74,7 +74,7 @@ fn letter(b: u8) -> Option<Kind> {
 fn take_letters(words: &mut Words<'_>) -> Option<Letters> {
     let text = words.next()?.text;
     let mut kinds = [Kind::Number; MOST_LETTERS];
-    if text == b"-" {
+    if text == b"-".as_slice() {
         return Some(Letters { count: 0, kinds });
     }
     if text.len() > MOST_LETTERS {

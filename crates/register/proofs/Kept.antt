@@ -1,5 +1,5 @@
 -- The clauses on histories of each call, from when it is refused and what it leaves.
-use Rattle.std.proofs.Common.{◌≡◌, ℕ, Bool, true, false, List, ◌∷◌, is_some, is_err, Some, None, Ok, Err, Option, Result, refl, arith, MatchResult}
+use Rattle.std.proofs.Common.{◌≡◌, ℕ, Bool, true, false, is_some, is_err, Some, None, Ok, Err, Option, Result, refl, arith, MatchResult}
 use Rattle.register.specs.declared.store.Store.{Store}
 use Rattle.register.specs.History.{Event}
 use Rattle.register.specs.Refusals.{err_of}

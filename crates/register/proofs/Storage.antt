@@ -1,5 +1,5 @@
 -- What a change of one entry and of its rows leaves of the parts.
-use Rattle.std.proofs.Common.{◌≡◌, ℕ, zero, suc, ◌+◌, ◌-◌, ◌<◌, ◌≤◌, true, false, List, [], ◌∷◌, ◌++◌, length, get_or, take, drop, set, sym, refl, ap, ◌∙◌, add_assoc, zero-add, arith}
+use Rattle.std.proofs.Common.{◌≡◌, ℕ, zero, suc, ◌+◌, ◌<◌, ◌≤◌, true, false, List, [], ◌∷◌, ◌++◌, length, get_or, take, drop, set, sym, refl, ap, ◌∙◌, add_assoc, zero-add, arith}
 use Rattle.std.proofs.lemmas.List.{take_more, take-take, drop-drop, drop-take, take_at, drop_at}
 use Rattle.relation.specs.declared.rows.Row.{Row}
 use Rattle.register.specs.declared.entries.Entry.{Entry}

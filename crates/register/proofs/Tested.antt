@@ -1,5 +1,5 @@
 -- What a row that passed its tests is.
-use Rattle.std.proofs.Common.{◌≡◌, ℕ, true, not, List, length, Some, None, Option, sym, refl, ap, ◌∙◌, arith}
+use Rattle.std.proofs.Common.{◌≡◌, ℕ, true, List, length, Some, None, Option, sym, refl, ap, ◌∙◌, arith}
 use Rattle.std.proofs.lemmas.Bool.{and_from}
 use Rattle.relation.specs.declared.columns.Kinds.{Kinds}
 use Rattle.relation.specs.declared.kinds.Kind.{Kind}

@@ -11,5 +11,5 @@ returns c =
     let at = c.args.at in
     let new = c.args.new.now in
     let n = length new in
-    let m : put_mid at (at + n - at) rs c.copy-from-slice.new.self ≡ take at rs ++ (new ++ drop (at + n) rs) = same_lists _ _ (search (rules, places)) (λ k d h. grind (arith, places)) in
+    let m : put_mid at (at + n - at) rs c.copy_from_slice.new.self ≡ take at rs ++ (new ++ drop (at + n) rs) = same_lists _ _ (search (rules, places)) (λ k d h. grind (arith, places)) in
     c.close.ensures ∙ (ap (λ x. closed x (at + n) (c.args.count - n) c.args.used blank_row) m ∙ replaced_is rs at c.args.count c.args.used new blank_row c.requires.low c.requires.fits c.requires.high)

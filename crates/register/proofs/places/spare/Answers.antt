@@ -4,17 +4,17 @@ use Rattle.register.specs.Layout.{vacancy, free}
 use Rattle.register.proofs.Storage.{free_from}
 use Rattle.register.proofs.places.spare.Goals as goal
 
-pub returns-then-is-free : goal.returns-then-is-free
-returns-then-is-free c = (
+pub returns-then-is_free : goal.returns-then-is_free
+returns-then-is_free c = (
   sym c.loop-i.invariant ∙ (at_drop_more vacancy c.args.entries.now c.loop-i.i free c.loop-i-test.true
-      ∙ ap (λ b. cond b true (vacancy (drop (c.loop-i.i + 1) c.args.entries.now))) (sym c.if-is-free.ensures)),
+      ∙ ap (λ b. cond b true (vacancy (drop (c.loop-i.i + 1) c.args.entries.now))) (sym c.if-is_free.ensures)),
   c.loop-i-test.true,
-  free_from (get_or c.args.entries.now c.loop-i.i free).mark (sym c.if-is-free.ensures),
+  free_from (get_or c.args.entries.now c.loop-i.i free).mark (sym c.if-is_free.ensures),
 )
 
 pub loop-i-preserved : goal.loop-i-preserved
 loop-i-preserved c =
-    ap (λ b. cond b true (vacancy (drop (c.loop-i.i + 1) c.args.entries.now))) c.if-is-free.ensures
+    ap (λ b. cond b true (vacancy (drop (c.loop-i.i + 1) c.args.entries.now))) c.if-is_free.ensures
     ∙ (sym (at_drop_more vacancy c.args.entries.now c.loop-i.i free c.loop-i-test.true) ∙ c.loop-i.invariant)
 
 pub returns : goal.returns

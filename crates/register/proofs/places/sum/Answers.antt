@@ -4,8 +4,8 @@ use Rattle.register.specs.Layout.{total, free}
 use Rattle.register.proofs.Storage.{total_more, total_take}
 use Rattle.register.proofs.places.sum.Goals as goal
 
-pub overflow-add-n : goal.overflow-add-n
-overflow-add-n c =
+pub overflow_add-n : goal.overflow_add-n
+overflow_add-n c =
     let m = total_more c.args.entries.now c.loop-e.e-index free c.loop-e-test.true in
     let t = total_take c.args.entries.now (c.loop-e.e-index + 1) in
     omega (arith, c.loop-e.invariant)

@@ -12,7 +12,7 @@ returns c =
     record {
       name = refl;
       mark = refl;
-      kinds = ap (λ xs. firsts (length ks) (xs ++ rest) Number) c.copy-from-slice.ensures.after ∙ firsts_front ks rest Number;
+      kinds = ap (λ xs. firsts (length ks) (xs ++ rest) Number) c.copy_from_slice.ensures.after ∙ firsts_front ks rest Number;
       wide = c.requires;
       count = refl;
     }

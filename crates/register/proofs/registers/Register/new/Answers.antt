@@ -5,13 +5,13 @@ use Rattle.register.proofs.Fresh.{fresh_sound, nothing, no_rows, wiped, wiped_le
 use Rattle.register.proofs.Days.{new_accounts}
 use Rattle.register.proofs.registers.Register.new.Goals as goal
 
-pub invariant-of-result : goal.invariant-of-result
-invariant-of-result c =
+pub invariant_of-result : goal.invariant_of-result
+invariant_of-result c =
     let rs = c.args.rows.now in
     let n = c.min-n.result in
     let w : c.fill.new.area ≡ wiped rs n = c.fill.ensures ∙ ap (λ b. (take 0 rs ++ replicate (n - 0) b) ++ drop n rs) c.blank.ensures in
     let s : Sound c.empty-directory.result.entries c.fill.new.area = fresh_sound rs c.fill.new.area c.empty-directory.result.entries n c.min-n.ensures w c.empty-directory.ensures in
-    (s.all, (s.room, (s.blanks, (s.apart, (s.empty, (s.wide, (s.fitting, tt)))))))
+    record { all = s.all; room = s.room; blanks = s.blanks; apart = s.apart; empty = s.empty; wide = s.wide; fitting = s.fitting }
 
 pub returns : goal.returns
 returns c =

@@ -11,17 +11,17 @@ use Rattle.register.proofs.registers.Register.publish.Goals as goal
 pub publish-requires : goal.publish-requires
 publish-requires c = let f = c.in-Some.ensures in record { whole = search rules; within = f.1; draft = f.2 }
 
-pub returns-in-default : goal.returns-in-default
-returns-in-default c =
+pub returns-in_default : goal.returns-in_default
+returns-in_default c =
     let s = c.args.self.now.store in
     let slip = c.args.slip in
-    let no = publish_slip c.args.self.now.number s slip c.args.work.now c.args.index.now c.in-default.ensures in
+    let no = publish_slip c.args.self.now.number s slip c.args.work.now c.args.index.now c.in_default.ensures in
     record {
       number = refl;
       refused = handed_err _ _ slip (ap Some c.plain.ensures ∙ sym (ap plain? no));
       after = refl;
-      work = c.blank-work.ensures.work;
-      index = c.blank-work.ensures.index;
+      work = c.blank_work.ensures.work;
+      index = c.blank_work.ensures.index;
       steps = record { exact = sym (ap is_some no); left = refl };
       accounts = λ h acc. kept (published slip c.args.work.now c.args.index.now true) h s s refl acc;
     }

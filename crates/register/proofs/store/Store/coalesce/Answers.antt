@@ -13,8 +13,8 @@ use Rattle.register.proofs.store.Store.coalesce.Goals as goal
 pub start-at-requires : goal.start-at-requires
 start-at-requires c = record { within = omega (arith, c.requires.whole.all); fits = omega (arith, c.requires.whole.room) }
 
-pub coalesce-part-requires : goal.coalesce-part-requires
-coalesce-part-requires c =
+pub coalesce_part-requires : goal.coalesce_part-requires
+coalesce_part-requires c =
     let s = c.args.self.now in
     let es = s.directory.entries in
     let i = c.args.i in
@@ -37,4 +37,4 @@ returns c =
     let e = get_or es i free in
     let l : i < length es = omega (arith, c.requires.whole.all, c.requires.within) in
     let p = part_in es s.rows.now i c.capacity-capacity.result c.start-at.result c.requires.whole l c.capacity-capacity.ensures c.start-at.ensures in
-    subst (λ (x : List Row). Collects (work_no (length (map (meant e.kinds.count) x)) c.args.work.now c.args.index.now) (on (map (meant e.kinds.count) x)) c.args.work.now c.args.index.now c.coalesce-part.result c.coalesce-part.new.work c.coalesce-part.new.index) p.2 c.coalesce-part.ensures
+    subst (λ (x : List Row). Collects (work_no (length (map (meant e.kinds.count) x)) c.args.work.now c.args.index.now) (on (map (meant e.kinds.count) x)) c.args.work.now c.args.index.now c.coalesce_part.result c.coalesce_part.new.work c.coalesce_part.new.index) p.2 c.coalesce_part.ensures

@@ -24,10 +24,10 @@ few_le kinds h = leb-true (length kinds) most_columns (and_parts (leb 1 (length 
 pub draft-requires : goal.draft-requires
 draft-requires c = few_le c.args.kinds.now (sym c.if-not-few.ensures)
 
-pub returns-in-default : goal.returns-in-default
-returns-in-default c = record {
+pub returns-in_default : goal.returns-in_default
+returns-in_default c = record {
   whole = c.requires;
-  refused = ap Some c.plain.ensures ∙ sym (ap plain? (no_at c.args.self.now c.args.name.now c.args.kinds.now false _ _ _ c.in-default.ensures refl refl refl));
+  refused = ap Some c.plain.ensures ∙ sym (ap plain? (no_at c.args.self.now c.args.name.now c.args.kinds.now false _ _ _ c.in_default.ensures refl refl refl));
   after = refl;
 }
 
@@ -51,13 +51,13 @@ returns-then-not-few c =
       after = refl;
     }
 
-pub returns-in-default-spare : goal.returns-in-default-spare
-returns-in-default-spare c =
+pub returns-in_default-spare : goal.returns-in_default-spare
+returns-in_default-spare c =
     let s = c.args.self.now in
     let n = c.in-Some.ensures in
     record {
       whole = c.requires;
-      refused = ap Some c.plain-in-default-spare.ensures ∙ sym (ap plain? (no_at s c.args.name.now c.args.kinds.now true false true false n.0 (ap (λ x. is_there (held s x)) (sym n.1) ∙ (sym c.has.ensures.is ∙ c.if-has.false)) (sym c.if-not-few.ensures) c.in-default-spare.ensures));
+      refused = ap Some c.plain-in_default-spare.ensures ∙ sym (ap plain? (no_at s c.args.name.now c.args.kinds.now true false true false n.0 (ap (λ x. is_there (held s x)) (sym n.1) ∙ (sym c.has.ensures.is ∙ c.if-has.false)) (sym c.if-not-few.ensures) c.in_default-spare.ensures));
       after = refl;
     }
 

@@ -12,8 +12,8 @@ use Rattle.register.proofs.Publishing.{kept_in, publish_result}
 use Rattle.register.proofs.Storage.{total_split}
 use Rattle.register.proofs.store.Store.publish.Goals as goal
 
-pub slice-bounds-replace-end-in-Ok : goal.slice-bounds-replace-end-in-Ok
-slice-bounds-replace-end-in-Ok c = (kept_in c.args.self.now c.args.i c.in-Ok.kept c.args.work.now c.coalesce.new.work c.args.index.now c.coalesce.new.index c.requires.whole c.requires.within c.requires.draft c.in-Ok.ensures.1).0
+pub slice_bounds-replace-end-in-Ok : goal.slice_bounds-replace-end-in-Ok
+slice_bounds-replace-end-in-Ok c = (kept_in c.args.self.now c.args.i c.in-Ok.kept c.args.work.now c.coalesce.new.work c.args.index.now c.coalesce.new.index c.requires.whole c.requires.within c.requires.draft c.in-Ok.ensures.1).0
 
 pub start-at-requires : goal.start-at-requires
 start-at-requires c = record { within = omega (arith, c.requires.whole.all, c.requires.within); fits = omega (arith, c.requires.whole.room) }
@@ -30,7 +30,7 @@ returns-in-Ok c =
     let es = s.directory.entries in
     let i = c.args.i in
     let e = get_or es i free in
-    let t : Store = record { rows = record { ref_ptr = s.rows.ptr; ghost_name = s.rows.name; now = c.replace.new.rows }; directory = c.publish.new.self } in
+    let t : Store = record { rows = record { ref_ptr = s.rows.ref_ptr; ghost_name = s.rows.ghost_name; now = c.replace.new.rows }; directory = c.publish.new.self } in
     let l = c.in-Ok.ensures.1 in
     let k = kept_in s i c.in-Ok.kept c.args.work.now c.coalesce.new.work c.args.index.now c.coalesce.new.index c.requires.whole c.requires.within c.requires.draft l in
     let b : i < length es = omega (arith, c.requires.whole.all, c.requires.within) in
@@ -41,8 +41,8 @@ returns-in-Ok c =
       whole = r.0;
       refused = sym (ap plain? (ap (λ x. work_no (size_of x) c.args.work.now c.args.index.now) o ∙ c.in-Ok.ensures.0));
       after = subst (λ (n : ℕ). Issued s t (code_at s i) n) (sym l.part.count) r.1;
-      work = c.blank-work.ensures.work ∙ blanked_same blank_row c.args.work.now c.coalesce.new.work c.coalesce.auto.work l.rows_rest;
-      index = c.blank-work.ensures.index ∙ blanked_same blank c.args.index.now c.coalesce.new.index c.coalesce.auto.index l.index_rest;
+      work = c.blank_work.ensures.work ∙ blanked_same blank_row c.args.work.now c.coalesce.new.work c.coalesce.auto.work l.rows_rest;
+      index = c.blank_work.ensures.index ∙ blanked_same blank c.args.index.now c.coalesce.new.index c.coalesce.auto.index l.index_rest;
     }
 
 pub returns-in-Err : goal.returns-in-Err
@@ -58,6 +58,6 @@ returns-in-Err c =
       whole = c.requires.whole;
       refused = sym (ap plain? (ap (λ x. work_no (size_of x) c.args.work.now c.args.index.now) o) ∙ l.0);
       after = refl;
-      work = c.blank-work-in-Err.ensures.work ∙ ap (λ x. Rattle.register.specs.State.blanked blank_row x) l.1;
-      index = c.blank-work-in-Err.ensures.index ∙ ap (λ x. Rattle.register.specs.State.blanked blank x) l.2;
+      work = c.blank_work-in-Err.ensures.work ∙ ap (λ x. Rattle.register.specs.State.blanked blank_row x) l.1;
+      index = c.blank_work-in-Err.ensures.index ∙ ap (λ x. Rattle.register.specs.State.blanked blank x) l.2;
     }

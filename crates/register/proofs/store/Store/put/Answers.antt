@@ -12,20 +12,20 @@ use Rattle.register.proofs.Fits.{put_no_lem, fits_draft}
 use Rattle.register.proofs.Tested.{or_else_lem, or_none, row_good, plain_none}
 use Rattle.register.proofs.store.Store.put.Goals as goal
 
-pub check-row-requires : goal.check-row-requires
-check-row-requires c = c.requires.wide c.in-Some.i
+pub check_row-requires : goal.check_row-requires
+check_row-requires c = c.requires.wide c.in-Some.i
 
-pub returns-in-default : goal.returns-in-default
-returns-in-default c = record {
+pub returns-in_default : goal.returns-in_default
+returns-in_default c = record {
   whole = c.requires;
-  refused = ap Some c.plain.ensures ∙ sym (ap plain? (cond-true (not (slip_fits c.args.number c.args.self.now c.args.slip.now)) (Some no.SlipMisfit) _ (not_from_false _ c.in-default.ensures)));
+  refused = ap Some c.plain.ensures ∙ sym (ap plain? (cond-true (not (slip_fits c.args.number c.args.self.now c.args.slip.now)) (Some no.SlipMisfit) _ (not_from_false _ c.in_default.ensures)));
   after = refl;
 }
 
-pub returns-in-err-check-row : goal.returns-in-err-check-row
-returns-in-err-check-row c =
-    let p = err_from_is_err_and c.from-residual.result c.from-residual.ensures.1 in
-    let h = c.in-err-check-row.ensures in
+pub returns-in_err-check_row : goal.returns-in_err-check_row
+returns-in_err-check_row c =
+    let p = err_from_is_err_and c.from_residual.result c.from_residual.ensures.1 in
+    let h = c.in_err-check_row.ensures in
     let s = c.args.self.now in
     let room : Option Reason = cond (not (ltb (used s) (rows_of s))) (Some no.NoRow) None in
     let q = put_no_lem c.args.number s c.args.slip.now c.args.row c.args.kinds.now c.in-Some.i c.requires c.in-Some.ensures in
@@ -33,7 +33,7 @@ returns-in-err-check-row c =
 
 pub returns-then-sum-capacity : goal.returns-then-sum-capacity
 returns-then-sum-capacity c =
-    let h = c.in-ok-check-row.ensures in
+    let h = c.in_ok-check_row.ensures in
     let s = c.args.self.now in
     let room : Option Reason = cond (not (ltb (used s) (rows_of s))) (Some no.NoRow) None in
     let q = put_no_lem c.args.number s c.args.slip.now c.args.row c.args.kinds.now c.in-Some.i c.requires c.in-Some.ensures in
@@ -52,12 +52,12 @@ add-requires c =
       within = f.1;
       draft = f.2;
       room = omega arith;
-      good = row_good (get_or s.directory.entries c.in-Some.i free).kinds c.args.kinds.now c.args.row (plain_none _ c.in-ok-check-row.ensures);
+      good = row_good (get_or s.directory.entries c.in-Some.i free).kinds c.args.kinds.now c.args.row (plain_none _ c.in_ok-check_row.ensures);
     }
 
 pub returns : goal.returns
 returns c =
-    let h = c.in-ok-check-row.ensures in
+    let h = c.in_ok-check_row.ensures in
     let s = c.args.self.now in
     let f = c.in-Some.ensures in
     let t = c.add.new.self in
