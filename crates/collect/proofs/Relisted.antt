@@ -7,7 +7,7 @@ use Rattle.std.proofs.lemmas.List.{get_or-take, get_or-map, length-take-le}
 use Rattle.relation.specs.declared.rows.Row.{Row}
 use Rattle.relation.specs.Bounds.{most_columns}
 use Rattle.relation.specs.Sets.{Tuple}
-use Rattle.relation.specs.Rows.{SpecRow, Holds, on, Lists}
+use Rattle.relation.specs.Rows.{Holds, on, Lists}
 use Rattle.relation.specs.Stored.{firsts, meant, stored, blank_row}
 use Rattle.relation.proofs.Held.{In, day_set}
 use Rattle.tree.specs.declared.Node.{Node}

@@ -11,7 +11,7 @@ use Rattle.relation.specs.Rows.{SpecRow, Lists}
 use Rattle.relation.specs.Stored.{stored, blank_row}
 use Rattle.relation.specs.declared.columns.Kinds.{Kinds}
 use Rattle.source.specs.Tables.{table, no_table}
-use Rattle.source.specs.Meaning.{Meaning, rows_of, day_set}
+use Rattle.source.specs.Meaning.{Meaning, rows_of}
 use Rattle.tree.specs.declared.Node.{Node}
 use Rattle.tree.specs.Trees.{blank}
 

@@ -5,7 +5,7 @@ ghost use Rattle.source.specs.Meaning.{day_set};
 ghost use Rattle.collect.specs.Collects.{no_collect, no_list, Collects};
 
 use crate::listing::list_rows;
-use crate::loads::{count_filled, load};
+use crate::loads::{count_filled, load_rows};
 use relation::bounds::MOST_WORK;
 use relation::columns::Kinds;
 use relation::refusals::{Reason, Refusal};
@@ -32,7 +32,7 @@ pub fn collect<S: Source>(
     if n > limit {
         return Err(Refusal::plain(Reason::ShortWork));
     }
-    load(source, rows);
+    load_rows(source, rows);
     let kept = list_rows(&mut rows[0..rows_end], &mut index[0..index_end], n);
     Ok(kept)
 }

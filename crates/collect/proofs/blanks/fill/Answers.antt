@@ -1,4 +1,4 @@
-use Rattle.std.proofs.Common.{◌≡◌, ◌-◌, ◌++◌, take, drop, set, replicate, sym, refl, ap, ◌∙◌, append-nil, arith, take-append-drop}
+use Rattle.std.proofs.Common.{◌≡◌, ◌-◌, ◌++◌, take, drop, set, replicate, sym, ap, ◌∙◌, append-nil, arith, take-append-drop}
 use Rattle.collect.proofs.Written.{filled_more}
 use Rattle.collect.proofs.blanks.fill.Goals as goal
 

@@ -8,7 +8,7 @@ use Rattle.collect.specs.Areas.{no_row, bare}
 use Rattle.collect.proofs.Sweeping.{sweeping_none, sweeping_grown, sweeping_new, sweeping_all, swept, swept_lists, swept_drawn, Drawn, at_row}
 use Rattle.collect.proofs.coalesce.coalesce.Goals as goal
 use Rattle.collect.proofs.coalesce.coalesce.Goals.{then-eq+then-row-open, else-eq}
-use Rattle.std.proofs.lemmas.Bool.Decides.{Decides-eqb}
+use Rattle.std.proofs.lemmas.Bool.Decides.{Decides-int_eq}
 
 pub loop-i-init : goal.loop-i-init
 loop-i-init c = sweeping_none c.args.n c.args.rows.now (omega arith)
@@ -20,7 +20,7 @@ apart xs ys first end b d (inr h) e l = both_ways b h (d.1 e)
 
 pub loop-i-preserved : goal.loop-i-preserved
 loop-i-preserved c =
-    let same : Decides c.eq.result ((get_or c.loop-i.rows c.loop-i.last no_row).values ≡ (get_or c.loop-i.rows c.loop-i.i no_row).values) = slice_eq-Decides Decides-eqb _ _ _ c.eq.ensures in
+    let same : Decides c.eq.result ((get_or c.loop-i.rows c.loop-i.last no_row).values ≡ (get_or c.loop-i.rows c.loop-i.i no_row).values) = slice_eq-Decides Decides-int_eq _ _ _ c.eq.ensures in
     elim c.if-eq.branch [
       | then-eq+then-row-open w ↦ rw (w.rows-is, w.last-is) (sweeping_grown _ _ _ _ _ c.loop-i.invariant c.loop-i-test.true (omega arith) (omega arith) w.max.result w.max.ensures (same.0 w.if-eq.true) (omega arith))
       | else-eq w ↦ rw (w.rows-is, w.last-is) (sweeping_new _ _ _ _ _ c.loop-i.invariant c.loop-i-test.true (omega arith) (omega arith) (apart _ _ _ _ _ same w.else-eq.either))
