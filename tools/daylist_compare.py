@@ -1,7 +1,7 @@
 #!/usr/bin/env python3
-"""Compares target/bin/daylist with the second program on random lists, good and damaged.
+"""Compares crates/daylist/out/daylist with the second program on random lists, good and damaged.
 
-usage: tools/daylist_compare.py [COUNT]      (after: rt check daylist)
+usage: tools/daylist_compare.py [COUNT]      (after: cd crates/daylist && rt run)
 """
 import os
 import random
@@ -11,7 +11,7 @@ import sys
 import daylist_reference
 
 HERE = os.path.dirname(os.path.abspath(__file__))
-PROGRAM = os.path.join(HERE, "..", "target", "bin", "daylist")
+PROGRAM = os.path.join(HERE, "..", "crates", "daylist", "out", "daylist")
 
 
 def value(rng, kind):

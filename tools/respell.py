@@ -4,6 +4,8 @@ types and statements in camel case (First-difference is FirstDifference), every 
 
 usage: python3 tools/respell.py         in the repository, after the toolchain's own script and before any edit by hand
        python3 tools/respell.py --dry   only says which names fall together
+       python3 tools/respell.py --alias CRATE..   only the last step, in these crates: the library's word for 'each element', by recursion,
+                                        goes by AllOf, since no other thing may go by the name of the library's All
 
 Names of the code (functions, fields, constants), and names that the check makes (goals, steps, invariants) are left.
 """
@@ -222,12 +224,40 @@ def together():
     return said
 
 
-for line in together():
-    print(line.replace(ROOT + "/", ""))
-print(f"{len(MAP)} names")
-if not DRY:
-    for f, t in TEXTS.items():
-        new = turn_antt(t) if f.endswith(".antt") else turn_rt(t)
-        if new != t:
-            with open(f, "w", encoding="utf-8") as out:
-                out.write(new)
+def turn_alias(f, t):
+    """Calls the recursive All of the library by AllOf in a file that imports it as All."""
+    if "AllByRecursion as All" not in t:
+        return t
+    spans = [(0, len(t))] if f.endswith(".antt") else clauses(t)
+    for a, b in sorted(spans, reverse=True):
+        part, out, at = t[a:b], [], 0
+        for m in TOKEN.finditer(part):
+            if m[0] == "All" and not (m.start() and part[m.start() - 1] == "."):
+                out += [part[at : m.start()], "AllOf"]
+                at = m.end()
+        t = t[:a] + "".join(out + [part[at:]]) + t[b:]
+    return t.replace("AllByRecursion as All}", "AllByRecursion as AllOf}").replace("AllByRecursion as All,", "AllByRecursion as AllOf,")
+
+
+def write(f, old, new):
+    if new != old:
+        with open(f, "w", encoding="utf-8") as out:
+            out.write(new)
+
+
+def main():
+    if "--alias" in sys.argv:
+        for f, t in TEXTS.items():
+            if os.path.relpath(f, ROOT).split(os.sep)[1] in sys.argv:
+                write(f, t, turn_alias(f, t))
+        return
+    for line in together():
+        print(line.replace(ROOT + "/", ""))
+    print(f"{len(MAP)} names")
+    if not DRY:
+        for f, t in TEXTS.items():
+            write(f, t, turn_alias(f, turn_antt(t) if f.endswith(".antt") else turn_rt(t)))
+
+
+if __name__ == "__main__":
+    main()

@@ -58,18 +58,6 @@ def listed(name, kinds, days, out):
         out.append(" ".join([str(a), str(b)] + [show(k, v) for k, v in zip(kinds, t)]))
 
 
-def summed(days, by):
-    """On each day, for each group of the tuples, its values in the columns `by` and the sum of the second column."""
-    totals = {}
-    for d, ts in days.items():
-        groups = {}
-        for t in ts:
-            key = tuple(t[c] for c in by)
-            groups[key] = groups.get(key, 0) + t[1]
-        totals[d] = {key + (total,) for key, total in groups.items()}
-    return totals
-
-
 def main():
     hires, covers, values, first, end = sys.argv[1:]
     first, end = int(first), int(end)
@@ -90,10 +78,6 @@ def main():
     listed("valued", kinds, joined, out)
     out.append(f"from day {first} up to day {end}:")
     listed("asked", kinds, asked, out)
-    out.append("value out without cover on each day:")
-    listed("total", b"n", summed(asked, ()), out)
-    out.append("the same by owner:")
-    listed("owners", kinds[2:3] + b"n", summed(asked, (2,)), out)
     print("\n".join(out))
 
 

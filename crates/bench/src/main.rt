@@ -1,4 +1,4 @@
-// Times coalesce, except and join on a leading column over N random rows, for three N; then tallies in one group and in many, for three more.
+// Times coalesce, except and join on a leading column over N random rows, for three N.
 // With no argument it prints only the row counts; with one, how long each job took as well.
 #![tactic(auto)]
 
@@ -15,14 +15,9 @@ use source::tables::Table;
 use std::alloc::{AllocError, Global};
 use std::env;
 use std::time::Instant;
-use tallies::rules::Tally;
-use tally::calls::tally;
 use tree::Node;
 
 const SIZES: [usize; 3] = [256, 4096, 8192];
-
-// The last is as many as a tally takes: it needs three entries of the work area for each row.
-const TALLY_SIZES: [usize; 3] = [2048, 8192, MOST_WORK / 3];
 
 // Numbers that look random: Knuth's MMIX generator, the upper bits.
 #[derive(Clone, Copy)]
@@ -111,18 +106,6 @@ fn joined(a: &[Row], b: &[Row], work: &mut Work) -> Result<usize, Refusal> {
     collect(&join, work.rows.as_mut_slice(), work.index.as_mut_slice())
 }
 
-// How many rows a tally of the rows has.
-fn tallied(rows: &[Row], what: Tally, by: &[usize], work: &mut Work) -> Result<usize, Refusal> {
-    let table = Table::open(rows, kinds())?;
-    tally(
-        &table,
-        what,
-        by,
-        work.rows.as_mut_slice(),
-        work.index.as_mut_slice(),
-    )
-}
-
 // Prints a job's row count, and where times are wanted how long it took.
 fn report(
     rt: &HostRuntime,
@@ -159,43 +142,10 @@ fn run_size(rt: &HostRuntime, n: usize, timed: bool) -> anyhow::Result<()> {
     report(rt, "join", count, start, timed)
 }
 
-// Takes one tally of the rows in one group, and by the first column.
-fn run_tally(
-    rt: &HostRuntime,
-    job: &str,
-    what: Tally,
-    rows: &[Row],
-    work: &mut Work,
-    timed: bool,
-) -> anyhow::Result<()> {
-    let start = Instant::now(rt)?;
-    let count = tallied(rows, what, &[], work)?;
-    print!(rt; "{job} in one group")?;
-    report(rt, "", count, start, timed)?;
-    let start = Instant::now(rt)?;
-    let count = tallied(rows, what, &[1], work)?;
-    print!(rt; "{job} by the first column")?;
-    report(rt, "", count, start, timed)
-}
-
-// Takes each tally over n rows.
-fn run_tallies(rt: &HostRuntime, n: usize, timed: bool) -> anyhow::Result<()> {
-    let heap = rt.alloc();
-    let mut work = Work::new(heap)?;
-    let rows = random_rows(heap, n, 1)?;
-    println!(rt; "{n} rows")?;
-    run_tally(rt, "count", Tally::Count, rows.as_slice(), &mut work, timed)?;
-    run_tally(rt, "sum", Tally::Sum(2), rows.as_slice(), &mut work, timed)?;
-    run_tally(rt, "max", Tally::Max(2), rows.as_slice(), &mut work, timed)
-}
-
 fn run(rt: &HostRuntime) -> anyhow::Result<()> {
     let timed = env::args(rt)?.count() > 1;
     for n in SIZES {
         run_size(rt, n, timed)?;
-    }
-    for n in TALLY_SIZES {
-        run_tallies(rt, n, timed)?;
     }
     Ok(())
 }

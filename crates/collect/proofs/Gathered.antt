@@ -1,7 +1,7 @@
 -- The rows of a source's filled places, as they are stored at the start of an area.
 use Rattle.std.proofs.Common.{◌≡◌, ℕ, zero, suc, ◌+◌, ◌-◌, ◌<◌, ◌≤◌, List, [], ◌∷◌, ◌++◌, map, length, get_or, take, drop, pos, Some, None, Option, sym, refl, ap, ◌∙◌, subst, arith}
 use lib.ListN.{length-map}
-use Rattle.std.specs.List.{AllByRecursion as All}
+use Rattle.std.specs.List.{AllByRecursion as AllOf}
 use Rattle.std.proofs.ByRecursion.{All-get_or, All-append, All-map, All-weaker}
 use Rattle.std.proofs.lemmas.List.{get_or-take, take-take, drop-drop}
 use Rattle.relation.specs.declared.rows.Row.{Row}
@@ -28,17 +28,17 @@ tidy_stored c x few e = ap (λ t. firsts most_columns t (pos 0)) (sym (columns c
 pub meant_stored : (c : ℕ) (x : SpecRow) → c ≤ most_columns → length x.tuple ≡ c → meant c (stored x) ≡ x
 meant_stored c x few e = λ i. record { tuple = columns c x few e i; first = x.first; end = x.end }
 
-meant_all : (c : ℕ) (xs : List SpecRow) → c ≤ most_columns → All (Fitted c) xs → map (meant c) (map stored xs) ≡ xs
+meant_all : (c : ℕ) (xs : List SpecRow) → c ≤ most_columns → AllOf (Fitted c) xs → map (meant c) (map stored xs) ≡ xs
 meant_all c [] few h = refl
 meant_all c (x ∷ xs) few h = λ i. meant_stored c x few h.0.0 i ∷ meant_all c xs few h.1 i
 
 -- ---- the rows of a source
 
-one_fitted : (m : Meaning) → Sound m → (k : ℕ) (o : Option SpecRow) → m.at k ≡ o → All (Fitted (length m.kinds)) (filled? o)
+one_fitted : (m : Meaning) → Sound m → (k : ℕ) (o : Option SpecRow) → m.at k ≡ o → AllOf (Fitted (length m.kinds)) (filled? o)
 one_fitted m s k None e = tt
 one_fitted m s k (Some r) e = ((fits_length m.kinds r.tuple (s.filled k r e).fitting, (s.filled k r e).period), tt)
 
-fitted : (m : Meaning) → Sound m → (n : ℕ) → All (Fitted (length m.kinds)) (rows_below m n)
+fitted : (m : Meaning) → Sound m → (n : ℕ) → AllOf (Fitted (length m.kinds)) (rows_below m n)
 fitted m s zero = tt
 fitted m s (suc n) = All-append (Fitted (length m.kinds)) (rows_below m n) (filled? (m.at n)) (fitted m s n) (one_fitted m s n (m.at n) refl)
 
@@ -57,15 +57,15 @@ module _ (m : Meaning) (s : Sound m) (entry rows : List Row) (is : rows ≡ map 
   front : take n (take (e - 0) rows) ≡ map stored xs
   front = take-take n (e - 0) rows (omega arith) ∙ ap (take n) is ∙ take_front n (map stored xs) (drop (length xs) entry) size
 
-  pub loaded_tidy : All (Tidy c) (take n (take (e - 0) rows))
-  loaded_tidy = subst (All (Tidy c)) (sym front) (All-map (Tidy c) stored xs (All-weaker (Fitted c) (λ x. Tidy c (stored x)) (λ x f. tidy_stored c x s.few_kinds f.0) xs (fitted m s m.count)))
+  pub loaded_tidy : AllOf (Tidy c) (take n (take (e - 0) rows))
+  loaded_tidy = subst (AllOf (Tidy c)) (sym front) (All-map (Tidy c) stored xs (All-weaker (Fitted c) (λ x. Tidy c (stored x)) (λ x f. tidy_stored c x s.few_kinds f.0) xs (fitted m s m.count)))
 
   pub loaded_means : map (meant c) (take n (take (e - 0) rows)) ≡ xs
   loaded_means = ap (map (meant c)) front ∙ meant_all c xs s.few_kinds (fitted m s m.count)
 
   pub loaded_periods : (i : ℕ) → i < n → Period (bare (get_or (take (e - 0) rows) i no_row))
   loaded_periods i lt =
-      let h : All (λ w. Period (bare w)) (map stored xs) = All-map (λ w. Period (bare w)) stored xs (All-weaker (Fitted c) Period (λ x f. f.1) xs (fitted m s m.count)) in
+      let h : AllOf (λ w. Period (bare w)) (map stored xs) = All-map (λ w. Period (bare w)) stored xs (All-weaker (Fitted c) Period (λ x f. f.1) xs (fitted m s m.count)) in
       subst (λ w. Period (bare w)) (ap (λ ws. get_or ws i no_row) (sym front) ∙ get_or-take n (take (e - 0) rows) i no_row lt) (All-get_or (λ w. Period (bare w)) (map stored xs) i no_row (omega (arith, size)) h)
 
   pub loaded_rest : drop e rows ≡ drop e entry

@@ -2,7 +2,7 @@
 use Rattle.std.proofs.Common.{◌≡◌, ℕ, zero, suc, ◌≤◌, ◌⊎◌, List, [], ◌∷◌, map, length, pos, Ordering, Less, Equal, Greater, sym, refl, ap, ◌∙◌, ap₂, inl, inr, arith}
 use Rattle.std.specs.Ordering.{is_eq, ordering_then, int_cmp}
 use Rattle.std.specs.Cmp.Lexicographic.{slice_cmp}
-use Rattle.std.specs.List.{AllByRecursion as All}
+use Rattle.std.specs.List.{AllByRecursion as AllOf}
 use Rattle.relation.specs.declared.rows.Row.{Row}
 use Rattle.relation.specs.Bounds.{most_columns}
 use Rattle.relation.specs.Lists.{Any, Pairwise}
@@ -57,19 +57,19 @@ module _ (c : ℕ) (few : c ≤ most_columns) where
   narrow_apart r s p q n e = n (same_values r s p q e)
 
   -- what holds of two rows as stored holds of them by their columns
-  narrow_all : (R S : SpecRow → SpecRow → Type 0) → ((r s : Row) → Tidy c r → Tidy c s → R (bare r) (bare s) → S (meant c r) (meant c s)) → (r : Row) (l : List Row) → Tidy c r → All (Tidy c) l → All (R (bare r)) (map bare l) → All (S (meant c r)) (map (meant c) l)
+  narrow_all : (R S : SpecRow → SpecRow → Type 0) → ((r s : Row) → Tidy c r → Tidy c s → R (bare r) (bare s) → S (meant c r) (meant c s)) → (r : Row) (l : List Row) → Tidy c r → AllOf (Tidy c) l → AllOf (R (bare r)) (map bare l) → AllOf (S (meant c r)) (map (meant c) l)
   narrow_all R S f r [] p ts h = tt
   narrow_all R S f r (s ∷ l) p ts h = (f r s p ts.0 h.0, narrow_all R S f r l p ts.1 h.1)
 
-  narrow_pairs : (R S : SpecRow → SpecRow → Type 0) → ((r s : Row) → Tidy c r → Tidy c s → R (bare r) (bare s) → S (meant c r) (meant c s)) → (l : List Row) → All (Tidy c) l → Pairwise R (map bare l) → Pairwise S (map (meant c) l)
+  narrow_pairs : (R S : SpecRow → SpecRow → Type 0) → ((r s : Row) → Tidy c r → Tidy c s → R (bare r) (bare s) → S (meant c r) (meant c s)) → (l : List Row) → AllOf (Tidy c) l → Pairwise R (map bare l) → Pairwise S (map (meant c) l)
   narrow_pairs R S f [] ts h = tt
   narrow_pairs R S f (r ∷ l) ts h = (narrow_all R S f r l ts.0 ts.1 h.0, narrow_pairs R S f l ts.1 h.1)
 
-  narrow_periods : (l : List Row) → All Period (map bare l) → All Period (map (meant c) l)
+  narrow_periods : (l : List Row) → AllOf Period (map bare l) → AllOf Period (map (meant c) l)
   narrow_periods [] h = tt
   narrow_periods (r ∷ l) h = (h.0, narrow_periods l h.1)
 
-  narrow_canonical : (l : List Row) → All (Tidy c) l → Canonical (map bare l) → Canonical (map (meant c) l)
+  narrow_canonical : (l : List Row) → AllOf (Tidy c) l → Canonical (map bare l) → Canonical (map (meant c) l)
   narrow_canonical l ts h = record {
     periods = narrow_periods l h.periods;
     coalesced = narrow_pairs Apart Apart narrow_apart l ts h.coalesced;
@@ -94,7 +94,7 @@ module _ (c : ℕ) (few : c ≤ most_columns) where
       go (w ∷ ws) (inl h) k = found w.values h.0 m (k w.values (inl (refl, h.1)))
       go (w ∷ ws) (inr h) k = go ws h (λ v j. k v (inr j))
 
-  pub narrow_lists : (l m : List Row) → All (Tidy c) l → Lists (map bare l) (on (map bare m)) → Lists (map (meant c) l) (on (map (meant c) m))
+  pub narrow_lists : (l m : List Row) → AllOf (Tidy c) l → Lists (map bare l) (on (map bare m)) → Lists (map (meant c) l) (on (map (meant c) m))
   narrow_lists l m ts h = record {
     canonical = narrow_canonical l ts h.canonical;
     sets = λ d day t. (

@@ -1,7 +1,7 @@
 -- From rows in another order to the list that is left of them.
 use Rattle.std.proofs.Common.{◌≡◌, ℕ, ◌-◌, ◌<◌, ◌≤◌, ◌↔◌, List, [], ◌∷◌, ◌++◌, map, length, get_or, take, replicate, pos, sym, refl, ap, ◌∙◌, subst, ap₂, arith}
 use lib.ListN.{length-map}
-use Rattle.std.specs.List.{AllByRecursion as All}
+use Rattle.std.specs.List.{AllByRecursion as AllOf}
 use Rattle.std.proofs.ByRecursion.{All-get_or, All-from_get_or}
 use Rattle.std.proofs.lemmas.List.{get_or-take, get_or-map, length-take-le}
 use Rattle.relation.specs.declared.rows.Row.{Row}
@@ -21,7 +21,7 @@ use Rattle.collect.proofs.Arranged.{Moved}
 stored_meant : (c : ℕ) (w : Row) → Tidy c w → stored (meant c w) ≡ w
 stored_meant c w t = λ i. record { first = w.first; end = w.end; values = sym t i }
 
-stored_all : (c : ℕ) (l : List Row) → All (Tidy c) l → map stored (map (meant c) l) ≡ l
+stored_all : (c : ℕ) (l : List Row) → AllOf (Tidy c) l → map stored (map (meant c) l) ≡ l
 stored_all c [] h = refl
 stored_all c (w ∷ l) h = λ i. stored_meant c w h.0 i ∷ stored_all c l h.1 i
 
@@ -45,7 +45,7 @@ drawn_in c n xs ys p q f below from d t =
     (f j, (omega (arith, size c n ys q, below j l), at c n xs p j l ∙ ap (meant c) (from j l) ∙ sym (at c n ys q (f j) (below j l)))))
 
 module _ (c : ℕ) (few : c ≤ most_columns) (n : ℕ) (before after : List Row) (m : Moved n before after) (wide : n ≤ length before) (same : length after ≡ length before)
-    (neat : All (Tidy c) (take n before)) where
+    (neat : AllOf (Tidy c) (take n before)) where
   -- the rows in their new order have the same sets
   same_sets : (d : ℕ) (t : Tuple) → In (map (meant c) (take n after)) d t ↔ In (map (meant c) (take n before)) d t
   same_sets d t = (
@@ -65,7 +65,7 @@ module _ (c : ℕ) (few : c ≤ most_columns) (n : ℕ) (before after : List Row
     left_size : length (take r left) ≡ r
     left_size = length-take-le r left (omega arith)
 
-    tidy : All (Tidy c) (take r left)
+    tidy : AllOf (Tidy c) (take r left)
     tidy =
         All-from_get_or (Tidy c) (take r left) no_row
         (λ k lt. let d = drawn k (omega (arith, left_size)) in

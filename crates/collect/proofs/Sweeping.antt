@@ -3,7 +3,7 @@ use Rattle.std.proofs.Common.{◌≡◌, ℕ, suc, ◌+◌, ◌<◌, ◌≤◌, 
 use Rattle.relation.specs.declared.rows.Row.{Row}
 use Rattle.relation.specs.Lists.{Pairwise}
 use Rattle.relation.specs.Rows.{SpecRow, Period, on, Lists}
-use Rattle.std.specs.List.{AllByRecursion as All}
+use Rattle.std.specs.List.{AllByRecursion as AllOf}
 use Rattle.std.proofs.ByRecursion.{All-get_or, All-from_get_or, All-map}
 use Rattle.std.proofs.lemmas.List.{length-take-le, get_or-take, get_or-set_same, get_or-set_other, take-set, drop_more, drop_all, map_more, get_or-map, length-map, append_assoc}
 use Rattle.std.proofs.lemmas.Bool.{cond-true, cond-false}
@@ -85,13 +85,13 @@ module _ (n : ℕ) (rows : List Row) (some : 0 < n) (long : n ≤ length rows) w
   whole = ap (map bare) (drop_more (take n rows) 0 no_row (omega (arith, length-take-le n rows long))) ∙ ap (λ r. bare r ∷ map bare (drop 1 (take n rows))) (get_or-take n rows 0 no_row some)
 
   -- what holds of each of the first n rows
-  each : (P : SpecRow → Type 0) → ((k : ℕ) → k < n → P (row_at rows k)) → All P (map bare (take n rows))
+  each : (P : SpecRow → Type 0) → ((k : ℕ) → k < n → P (row_at rows k)) → AllOf P (map bare (take n rows))
   each P h = All-map P bare (take n rows) (All-from_get_or (λ r. P (bare r)) (take n rows) no_row λ k l. let m : k < n = omega (arith, length-take-le n rows long) in subst (λ r. P (bare r)) (sym (get_or-take n rows k no_row m)) (h k m))
 
   pub swept_lists : ((i j : ℕ) → i < j → j < n → Rises (get_or rows i no_row) (get_or rows j no_row)) → ((i : ℕ) → i < n → Period (row_at rows i)) → Lists (swept n rows) (on (map bare (take n rows)))
   swept_lists sorted periods =
       subst (λ l. Lists (swept n rows) (on l)) (sym whole)
-      (sweep_lists (row_at rows 0) (map bare (drop 1 (take n rows))) (subst (All Period) whole (each Period periods)) (subst (Pairwise Rising) whole (rising (take n rows) pairs)))
+      (sweep_lists (row_at rows 0) (map bare (drop 1 (take n rows))) (subst (AllOf Period) whole (each Period periods)) (subst (Pairwise Rising) whole (rising (take n rows) pairs)))
     where
       pairs : (i j : ℕ) → i < j → j < length (take n rows) → Rises (get_or (take n rows) i no_row) (get_or (take n rows) j no_row)
       pairs i j l m =
@@ -99,11 +99,11 @@ module _ (n : ℕ) (rows : List Row) (some : 0 < n) (long : n ≤ length rows) w
           let a : i < n = omega arith in
           rw (get_or-take n rows i no_row a, get_or-take n rows j no_row b) (sorted i j l b)
 
-  pub swept_drawn : All (Drawn n rows) (swept n rows)
-  swept_drawn = sweep_all (λ t f. (j : ℕ) × ((j < n) × (t ≡ (get_or rows j no_row).values))) (row_at rows 0) (map bare (drop 1 (take n rows))) (subst (All (Drawn n rows)) whole (each (Drawn n rows) λ k l. (k, (l, refl))))
+  pub swept_drawn : AllOf (Drawn n rows) (swept n rows)
+  swept_drawn = sweep_all (λ t f. (j : ℕ) × ((j < n) × (t ≡ (get_or rows j no_row).values))) (row_at rows 0) (map bare (drop 1 (take n rows))) (subst (AllOf (Drawn n rows)) whole (each (Drawn n rows) λ k l. (k, (l, refl))))
 
 -- what holds of each row listed
-pub at_row : (P : SpecRow → Type 0) (n : ℕ) (rows : List Row) → n ≤ length rows → All P (map bare (take n rows)) → (k : ℕ) → k < n → P (row_at rows k)
+pub at_row : (P : SpecRow → Type 0) (n : ℕ) (rows : List Row) → n ≤ length rows → AllOf P (map bare (take n rows)) → (k : ℕ) → k < n → P (row_at rows k)
 at_row P n rows long h k l =
     let m : k < length (take n rows) = omega (arith, length-take-le n rows long) in
     subst P (get_or-map bare (take n rows) k no_row (bare no_row) m ∙ ap bare (get_or-take n rows k no_row l)) (All-get_or P (map bare (take n rows)) k (bare no_row) (simp length-map m) h)

@@ -1,7 +1,7 @@
 -- One sweep over rising rows lists their day sets.
 use Rattle.std.proofs.Common.{◌≡◌, ℕ, ◌<◌, ◌≤◌, max, Bool, true, false, cond, ◌&&◌, leb, ◌⊎◌, ◌↔◌, List, [], ◌∷◌, Decides, sym, ◌∙◌, subst, inl, inr, arith}
 use Rattle.std.specs.Cmp.{int_cmp_total}
-use Rattle.std.specs.List.{AllByRecursion as All}
+use Rattle.std.specs.List.{AllByRecursion as AllOf}
 use Rattle.std.proofs.lemmas.Bool.{cases_lt, cases_Bool, both_ways, cond_both, leb-true, le-leb}
 use Rattle.std.proofs.lemmas.Bool.Decides.{Decides-and}
 use Rattle.relation.specs.Lists.{Pairwise}
@@ -38,15 +38,15 @@ joins_not r s n = step (cases_Bool (joins r s))
     step (inr e) = e
 
 -- tuples and first days come from the rows
-pub sweep_all : (P : Tuple → ℕ → Type 0) (r : SpecRow) (rows : List SpecRow) → All (λ x. P x.tuple x.first) (r ∷ rows) → All (λ x. P x.tuple x.first) (sweep r rows)
+pub sweep_all : (P : Tuple → ℕ → Type 0) (r : SpecRow) (rows : List SpecRow) → AllOf (λ x. P x.tuple x.first) (r ∷ rows) → AllOf (λ x. P x.tuple x.first) (sweep r rows)
 sweep_all P r [] h = h
 sweep_all P r (s ∷ rows) h =
-    cond_both (joins r s) (sweep (grown r s) rows) (r ∷ sweep s rows) (λ l. All (λ x. P x.tuple x.first) l) (λ e. sweep_all P (grown r s) rows (h.0, h.1.1)) λ e. (h.0, sweep_all P s rows h.1)
+    cond_both (joins r s) (sweep (grown r s) rows) (r ∷ sweep s rows) (λ l. AllOf (λ x. P x.tuple x.first) l) (λ e. sweep_all P (grown r s) rows (h.0, h.1.1)) λ e. (h.0, sweep_all P s rows h.1)
 
-sweep_periods : (r : SpecRow) (rows : List SpecRow) → All Period (r ∷ rows) → All Period (sweep r rows)
+sweep_periods : (r : SpecRow) (rows : List SpecRow) → AllOf Period (r ∷ rows) → AllOf Period (sweep r rows)
 sweep_periods r [] h = h
 sweep_periods r (s ∷ rows) h =
-    cond_both (joins r s) (sweep (grown r s) rows) (r ∷ sweep s rows) (λ l. All Period l) (λ e. sweep_periods (grown r s) rows (omega arith, h.1.1)) λ e. (h.0, sweep_periods s rows h.1)
+    cond_both (joins r s) (sweep (grown r s) rows) (r ∷ sweep s rows) (λ l. AllOf Period l) (λ e. sweep_periods (grown r s) rows (omega arith, h.1.1)) λ e. (h.0, sweep_periods s rows h.1)
 
 -- ---- the rows are clear of each other
 
@@ -64,7 +64,7 @@ clear_on r s x (inl b) (inr f) = inl (subst (λ t. Below r.tuple t) f.0 b)
 clear_on r s x (inr e) (inl c) = inl (subst (λ t. Below t x.tuple) (sym e.0) c)
 clear_on r s x (inr e) (inr f) = inr (e.0 ∙ f.0, omega arith)
 
-clear_all : (r s : SpecRow) (rows : List SpecRow) → Clear r s → All (Rising s) rows → All (Clear r) rows
+clear_all : (r s : SpecRow) (rows : List SpecRow) → Clear r s → AllOf (Rising s) rows → AllOf (Clear r) rows
 clear_all r s [] c h = tt
 clear_all r s (x ∷ rows) c h = (clear_on r s x c h.0, clear_all r s rows c h.1)
 
@@ -107,7 +107,7 @@ sweep_in r (s ∷ rows) d t h =
     (λ e. let j = (joins_decides r s).0 e in let g = grown_in r s rows d t h.0.0 j.0 j.1 in let k = sweep_in (grown r s) rows d t (h.0.1, h.1.1) in (λ i. g.0 (k.0 i), λ i. k.1 (g.1 i)))
     λ e. first_in r (sweep s rows) (s ∷ rows) d t (sweep_in s rows d t h.1)
 
-pub sweep_lists : (r : SpecRow) (rows : List SpecRow) → All Period (r ∷ rows) → Pairwise Rising (r ∷ rows) → Lists (sweep r rows) (on (r ∷ rows))
+pub sweep_lists : (r : SpecRow) (rows : List SpecRow) → AllOf Period (r ∷ rows) → Pairwise Rising (r ∷ rows) → Lists (sweep r rows) (on (r ∷ rows))
 sweep_lists r rows ps h = record {
   canonical = canonical_from_clear (sweep r rows) (sweep_periods r rows ps) (sweep_clear r rows h);
   sets = λ d l t. let a = day_set (sweep r rows) d t in let b = day_set (r ∷ rows) d t in let c = sweep_in r rows d t h in (λ m. b.1 (c.0 (a.0 m)), λ m. a.1 (c.1 (b.0 m)));

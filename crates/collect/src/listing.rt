@@ -1,6 +1,6 @@
 // Rows put in listing order and coalesced, in place.
 ghost use Rattle.std.specs.Prelude.{ℕ, ◌<◌, ◌≤◌, map, length, take, slice_index_or};
-ghost use Rattle.std.specs.List.{AllByRecursion as All};
+ghost use Rattle.std.specs.List.{AllByRecursion as AllOf};
 ghost use Rattle.relation.specs.Bounds.{most_columns, most_work};
 ghost use Rattle.relation.specs.Rows.{Period, on};
 ghost use Rattle.relation.specs.Stored.{meant};
@@ -22,7 +22,7 @@ pub fn list_rows(rows: &mut [Row], index: &mut [Node], n: usize) -> usize
     requires room { n ≤ length index.old }
     requires few { length index.old ≤ most_work }
     requires periods { (i : ℕ) → i < n → Period (bare (slice_index_or rows.old i no_row)) }
-    ensures { (c : ℕ) → c ≤ most_columns → All (Tidy c) (take n rows.old) → HoldsList (on (map (meant c) (take n rows.old))) (length rows.old) (length index.old) result rows.new index.new }
+    ensures { (c : ℕ) → c ≤ most_columns → AllOf (Tidy c) (take n rows.old) → HoldsList (on (map (meant c) (take n rows.old))) (length rows.old) (length index.old) result rows.new index.new }
 {
     let keys = Rows { rows: &rows[0..n] };
     let root = tree::fill(index, &keys, n as u32);

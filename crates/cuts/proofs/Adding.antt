@@ -1,6 +1,6 @@
 -- The changes at the cuts are added up, from turn to turn.
 use Rattle.std.proofs.Common.{◌≡◌, ℕ, ◌+◌, ◌*◌, ◌<◌, ◌≤◌, List, [], ◌∷◌, ◌++◌, length, get_or, take, drop, set, ℤ, pos, ◌+ℤ◌, neg_ℤ, nat_abs, ◌≤ℤ◌, sym, refl, ap, ◌∙◌, subst, ap₂, arith, w64, SFits, to_z, of_z}
-use Rattle.std.specs.List.{AllByRecursion as All}
+use Rattle.std.specs.List.{AllByRecursion as AllOf}
 use Rattle.std.proofs.ByRecursion.{All-get_or}
 use Rattle.std.proofs.lemmas.List.{append-nil, append_assoc, drop_more, drop_all, drop-set-lt, take_all, take_more_set, at_drop_more}
 use Rattle.std.proofs.lemmas.Int.{ints, to_z-of_z}
@@ -49,7 +49,7 @@ module _ (before after : List Row) (i : ℕ) (n z : ℤ) (a : Adding before afte
     abbrev c : Row
     c = get_or before i no_row
 
-    adding_more : All Small before → (w : Row) → w ≡ cut_row c.first (n +ℤ value 0 c) (z +ℤ value 1 c) → Adding before (set after i w) (i + 1) (n +ℤ value 0 c) (z +ℤ value 1 c)
+    adding_more : AllOf Small before → (w : Row) → w ≡ cut_row c.first (n +ℤ value 0 c) (z +ℤ value 1 c) → Adding before (set after i w) (i + 1) (n +ℤ value 0 c) (z +ℤ value 1 c)
     adding_more all w is =
         let s = All-get_or Small before i no_row lt all in
         record {
@@ -72,7 +72,7 @@ module _ (before after : List Row) (i : ℕ) (n z : ℤ) (a : Adding before afte
     abbrev d : Row
     d = get_or after i no_row
 
-    module _ (few : length before ≤ most_cuts) (all : All Small before) where
+    module _ (few : length before ≤ most_cuts) (all : AllOf Small before) where
       small : Small d
       small = subst Small (sym cut_still) (All-get_or Small before i no_row lt all)
 

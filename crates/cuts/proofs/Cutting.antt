@@ -1,7 +1,7 @@
 -- The cuts of a group in the area: written, then sorted.
 use Rattle.std.proofs.Common.{◌≡◌, ℕ, ◌+◌, ◌-◌, ◌*◌, ◌≤◌, List, [], ◌∷◌, length, ℤ, neg_ℤ, ◌≤ℤ◌, sym, ap, ◌∙◌, subst, ap₂, arith}
 use borrow.Rule.Slice.PartMut.{put_mid}
-use Rattle.std.specs.List.{between, AllByRecursion as All}
+use Rattle.std.specs.List.{between, AllByRecursion as AllOf}
 use Rattle.std.proofs.lemmas.List.Edits.{length-between}
 use Rattle.std.proofs.lemmas.Int.{ints}
 use Rattle.relation.specs.declared.rows.Row.{Row}
@@ -38,7 +38,7 @@ closed_small m w h =
     let amounts = turned (value 1 (opened m w)) (s.amount_low, s.amount_high) in
     record { rows_low = rows.0; rows_high = rows.1; amount_low = amounts.0; amount_high = amounts.1 }
 
-small_cuts : (m : Measure) (ws : List Row) → All (Within m) ws → All Small (cuts_of m ws)
+small_cuts : (m : Measure) (ws : List Row) → AllOf (Within m) ws → AllOf Small (cuts_of m ws)
 small_cuts m [] h = tt
 small_cuts m (w ∷ ws) h = (opened_small m w h.0, (closed_small m w h.0, small_cuts m ws h.1))
 
@@ -76,8 +76,8 @@ module _ (m : Measure) (rows : List Row) (from upto base : ℕ) (order : from �
     pub cuts_rise : Rises (between base end after)
     cuts_rise = subst Rises (sym cuts_are) (sorted_rises (cuts_of m ws))
 
-    pub cuts_small : All (Within m) ws → All Small (between base end after)
-    cuts_small h = subst (All Small) (sym cuts_are) (all_sorted (cuts_of m ws) Small (small_cuts m ws h))
+    pub cuts_small : AllOf (Within m) ws → AllOf Small (between base end after)
+    cuts_small h = subst (AllOf Small) (sym cuts_are) (all_sorted (cuts_of m ws) Small (small_cuts m ws h))
 
     pub cut_is : (last : List Row) → last ≡ over after base end (measured m (between from upto after) (between base end after)) → last ≡ over rows base end (cut_days m ws)
     cut_is last told =

@@ -6,26 +6,26 @@ use Rattle.std.proofs.lemmas.Bool.{and_left, and_right, and_from, le-ltb, lt-ltb
 use Rattle.relation.specs.declared.rows.Row.{Row}
 use Rattle.collect.specs.Areas.{no_row}
 use Rattle.cuts.specs.Amounts.{value}
-use Rattle.cuts.specs.Stretches.{stretch, stretches_of}
+use Rattle.cuts.specs.Stretches.{stretch_by, stretches_by}
 
 -- cuts as they were and as they are now; the first `made` rows are the stretches that end before the cut i
 pub record Emitting (group : Row) (by : List ℕ) (before after : List Row) (made i : ℕ) : Type 0 where
   pub behind : made < i
   pub few : made ≤ length before
-  pub front : take made after ++ stretches_of group by (drop (i - 1) before) ≡ stretches_of group by before
+  pub front : take made after ++ stretches_by group by (drop (i - 1) before) ≡ stretches_by group by before
   pub rest : drop (i - 1) after ≡ drop (i - 1) before
 
 pub emitting_none : (group : Row) (by : List ℕ) (cs : List Row) → Emitting group by cs cs 0 1
 emitting_none group by cs = record { behind = omega arith; few = omega arith; front = refl; rest = refl }
 
 -- of fewer than two cuts there is no stretch
-no_stretch : (group : Row) (by : List ℕ) (cs : List Row) → length cs ≤ 1 → stretches_of group by cs ≡ []
+no_stretch : (group : Row) (by : List ℕ) (cs : List Row) → length cs ≤ 1 → stretches_by group by cs ≡ []
 no_stretch group by [] h = refl
 no_stretch group by (c ∷ []) h = refl
 no_stretch group by (c ∷ next ∷ cs) h = absurd (omega arith)
 
 module _ (group : Row) (by : List ℕ) (before after : List Row) (made i : ℕ) (a : Emitting group by before after made i) where
-  pub emitting_all : length before ≤ i → take made after ≡ stretches_of group by before
+  pub emitting_all : length before ≤ i → take made after ≡ stretches_by group by before
   emitting_all le =
       sym (append-nil (take made after))
       ∙ ap (λ xs. take made after ++ xs) (sym (no_stretch group by (drop (i - 1) before) (omega (arith, length-drop (i - 1) before))))
@@ -53,13 +53,13 @@ module _ (group : Row) (by : List ℕ) (before after : List Row) (made i : ℕ) 
         ap (λ k. drop k before) on ∙ sym (drop-drop 1 (i - 1) before) ∙ ap (drop 1) left_is
 
     abbrev later : List Row
-    later = stretches_of group by (drop (i + 1 - 1) before)
+    later = stretches_by group by (drop (i + 1 - 1) before)
 
     abbrev test : Bool
     test = lt_z (pos 0) (value 0 c) && ltb c.first next.first
 
-    left_stretches : stretches_of group by (drop (i - 1) before) ≡ cond test (stretch group by c next ∷ later) later
-    left_stretches = ap (stretches_of group by) left_is ∙ ap (λ t. cond test (stretch group by c next ∷ stretches_of group by t) (stretches_of group by t)) (sym rest_is)
+    left_stretches : stretches_by group by (drop (i - 1) before) ≡ cond test (stretch_by group by c next ∷ later) later
+    left_stretches = ap (stretches_by group by) left_is ∙ ap (λ t. cond test (stretch_by group by c next ∷ stretches_by group by t) (stretches_by group by t)) (sym rest_is)
 
     rest_still : drop (i + 1 - 1) after ≡ drop (i + 1 - 1) before
     rest_still =
@@ -78,7 +78,7 @@ module _ (group : Row) (by : List ℕ) (before after : List Row) (made i : ℕ) 
         off (inl k) = and_right (lt_z (pos 0) (value 0 c)) (ltb c.first next.first) (le-ltb c.first next.first k.1)
         off (inr k) = and_left (lt_z (pos 0) (value 0 c)) (ltb c.first next.first) k
 
-    pub emitting_one : (w : Row) → lt_z (pos 0) (value 0 c) ≡ true → c.first < next.first → w ≡ stretch group by c next → Emitting group by before (set after made w) (made + 1) (i + 1)
+    pub emitting_one : (w : Row) → lt_z (pos 0) (value 0 c) ≡ true → c.first < next.first → w ≡ stretch_by group by c next → Emitting group by before (set after made w) (made + 1) (i + 1)
     emitting_one w h k is = record {
       behind = omega (arith, a.behind);
       few = omega (arith, a.behind);

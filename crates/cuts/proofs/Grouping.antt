@@ -1,7 +1,7 @@
 -- The stretches of a group's cuts give the amounts on each day.
 use Rattle.std.proofs.Common.{◌≡◌, ℕ, zero, suc, ◌+◌, ◌<◌, ◌≤◌, Bool, true, false, cond, ◌&&◌, ltb, leb, ◌⊎◌, List, [], ◌∷◌, length, get_or, pos, filter, sym, refl, ap, ◌∙◌, subst, inl, inr, add-one, arith}
 use lib.Signed.{lt_z}
-use Rattle.std.specs.List.{AllByRecursion as All}
+use Rattle.std.specs.List.{AllByRecursion as AllOf}
 use Rattle.std.proofs.ByRecursion.{All-get_or}
 use Rattle.std.proofs.lemmas.Bool.{cases_lt, le-leb, lt-leb, lt-ltb, le-ltb, true≢false}
 use Rattle.relation.specs.declared.rows.Row.{Row}
@@ -12,14 +12,14 @@ use Rattle.relation.proofs.Pigeons.{all_both}
 use Rattle.collect.specs.Areas.{no_row, bare}
 use Rattle.cuts.specs.declared.measures.Measure.{Measure}
 use Rattle.cuts.specs.Amounts.{value, held, amount}
-use Rattle.cuts.specs.Groups.{tuple_of}
-use Rattle.cuts.specs.Stretches.{stretch, stretches_of}
+use Rattle.cuts.specs.Groups.{tuple_by}
+use Rattle.cuts.specs.Stretches.{stretch_by, stretches_by}
 use Rattle.cuts.proofs.Telling.{some?, CutAt, Says, Told}
 use Rattle.cuts.proofs.Stretching.{From, stretch_listed}
 
 -- ---- rows that hold a day
 
-kept_same : (p q : Row → Bool) (ws : List Row) → All (λ w. p w ≡ q w) ws → filter p ws ≡ filter q ws
+kept_same : (p q : Row → Bool) (ws : List Row) → AllOf (λ w. p w ≡ q w) ws → filter p ws ≡ filter q ws
 kept_same p q [] h = refl
 kept_same p q (w ∷ ws) h = λ k. cond (h.0 k) (w ∷ kept_same p q ws h.1 k) (kept_same p q ws h.1 k)
 
@@ -94,15 +94,15 @@ module _ (m : Measure) (ws cs : List Row) (told : Told m ws cs) where
   -- ---- the stretches
 
   module _ (group : Row) (by : List ℕ) (w : Row) (f : From group by cs w) where
-    pub stretch_says : (d : ℕ) → Holds (bare w) d → SomeHolds ws d × (w.values ≡ tuple_of group by (amount m (held ws d)))
+    pub stretch_says : (d : ℕ) → Holds (bare w) d → SomeHolds ws d × (w.values ≡ tuple_by group by (amount m (held ws d)))
     stretch_says d h =
         let s = says f.j f.within f.ahead in
         let low : day f.j ≤ d = omega (arith, ap (λ r. r.first) f.is, h.0) in
         let high : d < day (suc f.j) = omega (arith, ap (λ r. r.end) f.is, h.1) in
         let same = constant f.j d f.within low high in
-        (holder ws d (ap some? same ∙ sym s.rows ∙ f.some), ap (λ r. r.values) f.is ∙ ap (tuple_of group by) (s.amount_is ∙ ap (amount m) (sym same)))
+        (holder ws d (ap some? same ∙ sym s.rows ∙ f.some), ap (λ r. r.values) f.is ∙ ap (tuple_by group by) (s.amount_is ∙ ap (amount m) (sym same)))
 
-    pub stretch_period : All (λ r. Period (bare r)) ws → Period (bare w)
+    pub stretch_period : AllOf (λ r. Period (bare r)) ws → Period (bare w)
     stretch_period periods =
         let s = says f.j f.within f.ahead in
         let h = holder ws (day f.j) (sym s.rows ∙ f.some) in
@@ -125,7 +125,7 @@ module _ (m : Measure) (ws cs : List Row) (told : Told m ws cs) where
   -- a row of the list holds the day
   module _ (group : Row) (by : List ℕ) (d : ℕ) where
     abbrev out : List Row
-    out = stretches_of group by cs
+    out = stretches_by group by cs
 
     listed_holds : (w : Row) → Holds (bare w) d → (i : ℕ) × ((i < length out) × (get_or out i no_row ≡ w)) → SomeHolds out d
     listed_holds w h s = (s.0, (s.1.0, subst (λ u. Holds (bare u) d) (sym s.1.1) h))
@@ -134,7 +134,7 @@ module _ (m : Measure) (ws cs : List Row) (told : Told m ws cs) where
     covered j within low high some =
         let ahead : day j < day (suc j) = omega arith in
         let told_some : lt_z (pos 0) (value 0 (get_or cs j no_row)) ≡ true = (says j within ahead).rows ∙ ap some? (sym (constant j d within low high)) ∙ some in
-        listed_holds (stretch group by (get_or cs j no_row) (get_or cs (suc j) no_row)) (low, high) (stretch_listed group by cs j within told_some ahead)
+        listed_holds (stretch_by group by (get_or cs j no_row) (get_or cs (suc j) no_row)) (low, high) (stretch_listed group by cs j within told_some ahead)
 
     pub day_covered : SomeHolds ws d → SomeHolds out d
     day_covered h =

@@ -1,6 +1,6 @@
 -- The value of a row is taken into the cuts that it holds, from turn to turn.
 use Rattle.std.proofs.Common.{◌≡◌, ℕ, ◌+◌, ◌-◌, ◌<◌, ◌≤◌, true, false, ltb, leb, List, [], ◌∷◌, ◌++◌, map, length, get_or, take, drop, set, ℤ, sym, refl, ap, ◌∙◌, subst, ap₂, arith}
-use Rattle.std.specs.List.{AllByRecursion as All}
+use Rattle.std.specs.List.{AllByRecursion as AllOf}
 use Rattle.std.proofs.ByRecursion.{All-from_get_or}
 use Rattle.std.proofs.lemmas.List.Edits.{map_over_more}
 use Rattle.std.proofs.lemmas.List.{take-append-drop, get_or-take, get_or-drop, get_or-append_right, get_or_default, length-take, length-take-le, length-drop, length-map, map-append}
@@ -12,7 +12,7 @@ use Rattle.cuts.specs.declared.bests.Extreme.{Extreme}
 use Rattle.cuts.specs.Days.{Rises}
 use Rattle.cuts.specs.Bests.{kept_at, kept_by_row}
 
-same_map : {X : Type 0} (f : X → X) (xs : List X) → All (λ x. f x ≡ x) xs → map f xs ≡ xs
+same_map : {X : Type 0} (f : X → X) (xs : List X) → AllOf (λ x. f x ≡ x) xs → map f xs ≡ xs
 same_map f [] h = refl
 same_map f (x ∷ xs) h = ap₂ (λ y ys. y ∷ ys) h.0 (same_map f xs h.1)
 
@@ -35,7 +35,7 @@ module _ (e : Extreme) (z : ℤ) (w : Row) (before : List Row) where
   pub keeping_none : (i : ℕ) → i ≤ length before → ((k : ℕ) → k < i → (get_or before k no_row).first < w.first) → ((k : ℕ) → i ≤ k → k < length before → w.first ≤ (get_or before k no_row).first) → Keeping before i
   keeping_none i le low high = record { parts = sym (take-append-drop i before) ∙ ap (λ xs. xs ++ drop i before) (sym (same_map f (take i before) same)); reached = high }
     where
-      same : All (λ c. f c ≡ c) (take i before)
+      same : AllOf (λ c. f c ≡ c) (take i before)
       same =
           All-from_get_or (λ c. f c ≡ c) (take i before) no_row
           (λ k lt. let l : k < i = omega (arith, length-take i before) in
@@ -47,7 +47,7 @@ module _ (e : Extreme) (z : ℤ) (w : Row) (before : List Row) where
     keeping_all rises past =
         a.parts ∙ ap (λ xs. map f (take i before) ++ xs) (sym (same_map f (drop i before) same)) ∙ sym (map-append f (take i before) (drop i before)) ∙ ap (map f) (take-append-drop i before)
       where
-        same : All (λ c. f c ≡ c) (drop i before)
+        same : AllOf (λ c. f c ≡ c) (drop i before)
         same =
             All-from_get_or (λ c. f c ≡ c) (drop i before) no_row
             (λ k lt. let l : i + k < length before = omega (arith, length-drop i before) in

@@ -14,3 +14,4 @@ pub mod Telling
 pub mod Stretching
 pub mod Grouping
 pub mod Tallying
+pub mod Widths

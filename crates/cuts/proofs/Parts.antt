@@ -1,7 +1,7 @@
 -- Lemmas on a part of an area.
 use Rattle.std.proofs.Common.{◌≡◌, ℕ, ◌+◌, ◌-◌, ◌<◌, ◌≤◌, List, ◌++◌, length, get_or, take, drop, sym, ap, ◌∙◌, subst, ap₂, arith}
 use borrow.Rule.Slice.PartMut.{put_mid}
-use Rattle.std.specs.List.{between, AllByRecursion as All}
+use Rattle.std.specs.List.{between, AllByRecursion as AllOf}
 use Rattle.std.proofs.ByRecursion.{All-get_or, All-from_get_or}
 use Rattle.std.proofs.lemmas.List.Edits.{split_between, length-between, get_or-between}
 use Rattle.std.proofs.lemmas.Slice.{between_is}
@@ -68,13 +68,13 @@ module _ {X : Type 0} (area : List X) (base end : ℕ) (order : base ≤ end) (w
         ∙ get_or-drop end area (k - end) d ∙ ap (λ i. get_or area i d) n
 
 -- a fact of each entry of a part
-pub at_part : {X : Type 0} (P : X → Type 0) (area : List X) (d : X) (from upto i : ℕ) → All P (between from upto area) → from ≤ i → i < upto → upto ≤ length area → P (get_or area i d)
+pub at_part : {X : Type 0} (P : X → Type 0) (area : List X) (d : X) (from upto i : ℕ) → AllOf P (between from upto area) → from ≤ i → i < upto → upto ≤ length area → P (get_or area i d)
 at_part P area d from upto i all a b c =
     let k : from + (i - from) ≡ i = omega arith in
     subst P (get_or-between area from upto (i - from) d (omega arith) ∙ ap (λ n. get_or area n d) k)
     (All-get_or P (between from upto area) (i - from) d (omega (arith, length-between area from upto c)) all)
 
-pub all_part : {X : Type 0} (P : X → Type 0) (area : List X) (d : X) (from upto : ℕ) → ((i : ℕ) → from ≤ i → i < upto → P (get_or area i d)) → upto ≤ length area → All P (between from upto area)
+pub all_part : {X : Type 0} (P : X → Type 0) (area : List X) (d : X) (from upto : ℕ) → ((i : ℕ) → from ≤ i → i < upto → P (get_or area i d)) → upto ≤ length area → AllOf P (between from upto area)
 all_part P area d from upto each c =
     All-from_get_or P (between from upto area) d
     (λ k lt. let l : from + k < upto = omega (arith, length-between area from upto c) in

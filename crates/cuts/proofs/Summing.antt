@@ -1,7 +1,7 @@
 -- What the changes at sorted cuts come to is the total over the rows that hold the day.
 use Rattle.std.proofs.Common.{◌≡◌, ℕ, zero, suc, ◌+◌, ◌<◌, ◌≤◌, cond, ltb, leb, ◌⊎◌, List, [], ◌∷◌, map, length, get_or, take, drop, ℤ, pos, ◌+ℤ◌, neg_ℤ, sym, refl, ap, ◌∙◌, subst, ap₂, inl, inr, add-one, arith, take-append-drop}
 use mathlib.Core.List.{map-append}
-use Rattle.std.specs.List.{AllByRecursion as All}
+use Rattle.std.specs.List.{AllByRecursion as AllOf}
 use Rattle.std.proofs.ByRecursion.{All-from_get_or}
 use Rattle.std.proofs.lemmas.List.{get_or-take, get_or-drop, length-take, length-drop}
 use Rattle.std.proofs.lemmas.Int.{ints}
@@ -45,14 +45,14 @@ totals_at cs j lt =
 abbrev upto : ℕ → (Row → ℤ) → Row → ℤ
 upto d p c = cond (leb c.first d) (p c) (pos 0)
 
-nothing : (d : ℕ) (p : Row → ℤ) (cs : List Row) → All (λ c. d < c.first) cs → total (map (upto d p) cs) ≡ pos 0
+nothing : (d : ℕ) (p : Row → ℤ) (cs : List Row) → AllOf (λ c. d < c.first) cs → total (map (upto d p) cs) ≡ pos 0
 nothing d p [] h = refl
 nothing d p (c ∷ cs) h =
     let one : upto d p c ≡ pos 0 = cond-false (leb c.first d) (p c) (pos 0) (lt-leb c.first d h.0) in
     let rest : total (map (upto d p) cs) ≡ pos 0 = nothing d p cs h.1 in
     omega (arith, ints)
 
-everything : (d : ℕ) (p : Row → ℤ) (cs : List Row) → All (λ c. c.first ≤ d) cs → All (λ c. upto d p c ≡ p c) cs
+everything : (d : ℕ) (p : Row → ℤ) (cs : List Row) → AllOf (λ c. c.first ≤ d) cs → AllOf (λ c. upto d p c ≡ p c) cs
 everything d p [] h = tt
 everything d p (c ∷ cs) h = (cond-true (leb c.first d) (p c) (pos 0) (le-leb c.first d h.0), everything d p cs h.1)
 
@@ -67,13 +67,13 @@ front_is p cs j rises lt step =
     let none : total (map f (drop (j + 1) cs)) ≡ pos 0 = nothing d p (drop (j + 1) cs) above in
     omega (arith, ints)
   where
-    below : All (λ c. c.first ≤ (get_or cs j no_row).first) (take (j + 1) cs)
+    below : AllOf (λ c. c.first ≤ (get_or cs j no_row).first) (take (j + 1) cs)
     below =
         All-from_get_or (λ c. c.first ≤ (get_or cs j no_row).first) (take (j + 1) cs) no_row
         (λ k l. let m : k < j + 1 = omega (arith, length-take (j + 1) cs) in
         subst (λ c. c.first ≤ (get_or cs j no_row).first) (sym (get_or-take (j + 1) cs k no_row m)) (rises k j (omega arith) (omega arith)))
 
-    above : All (λ c. (get_or cs j no_row).first < c.first) (drop (j + 1) cs)
+    above : AllOf (λ c. (get_or cs j no_row).first < c.first) (drop (j + 1) cs)
     above =
         All-from_get_or (λ c. (get_or cs j no_row).first < c.first) (drop (j + 1) cs) no_row
         (λ k l. let m : j + 1 + k < length cs = omega (arith, length-drop (j + 1) cs) in
@@ -103,12 +103,12 @@ module _ (m : Measure) (p v : Row → ℤ) (opens : (w : Row) → p (opened m w)
           let e : upto d p (opened m w) +ℤ (upto d p (closed m w) +ℤ rest) ≡ total (map v hs) = omega (arith, ints) in
           e ∙ ap (λ l. total (map v l)) (sym (cond-false (holds (bare w) d) (w ∷ hs) hs (and_right (leb w.first d) (ltb d w.end) (le-ltb d w.end b))))
 
-  cuts_total : (d : ℕ) (ws : List Row) → All (λ w. w.first < w.end) ws → total (map (upto d p) (cuts_of m ws)) ≡ total (map v (held ws d))
+  cuts_total : (d : ℕ) (ws : List Row) → AllOf (λ w. w.first < w.end) ws → total (map (upto d p) (cuts_of m ws)) ≡ total (map v (held ws d))
   cuts_total d [] h = refl
   cuts_total d (w ∷ ws) h = one_row d w (held ws d) (total (map (upto d p) (cuts_of m ws))) h.0 (cuts_total d ws h.1)
 
   -- what the changes come to before a later day
-  pub summed : (ws : List Row) → All (λ w. w.first < w.end) ws → (j : ℕ) → j + 1 < length (sorted (cuts_of m ws)) → (get_or (sorted (cuts_of m ws)) j no_row).first < (get_or (sorted (cuts_of m ws)) (j + 1) no_row).first
+  pub summed : (ws : List Row) → AllOf (λ w. w.first < w.end) ws → (j : ℕ) → j + 1 < length (sorted (cuts_of m ws)) → (get_or (sorted (cuts_of m ws)) j no_row).first < (get_or (sorted (cuts_of m ws)) (j + 1) no_row).first
       → front_total p (j + 1) (sorted (cuts_of m ws)) ≡ total (map v (held ws (get_or (sorted (cuts_of m ws)) j no_row).first))
   summed ws h j lt step =
       let d = (get_or (sorted (cuts_of m ws)) j no_row).first in

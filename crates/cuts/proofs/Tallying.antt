@@ -1,7 +1,7 @@
 -- A tallied group in the area.
 use Rattle.std.proofs.Common.{◌≡◌, ℕ, ◌+◌, ◌-◌, ◌*◌, ◌<◌, ◌≤◌, ◌⊎◌, List, length, get_or, take, sym, ap, ◌∙◌, subst, inl, inr, arith}
 use borrow.Rule.Slice.PartMut.{put_mid}
-use Rattle.std.specs.List.{between, AllByRecursion as All}
+use Rattle.std.specs.List.{between, AllByRecursion as AllOf}
 use Rattle.std.proofs.lemmas.List.Edits.{length-between, get_or-between}
 use Rattle.std.proofs.ByRecursion.{All-weaker}
 use Rattle.std.proofs.lemmas.List.{get_or-take, length-take-le}
@@ -10,9 +10,9 @@ use Rattle.relation.specs.Rows.{Period, Holds}
 use Rattle.collect.specs.Areas.{no_row, bare}
 use Rattle.cuts.specs.declared.measures.Measure.{Measure}
 use Rattle.cuts.specs.Areas.{over}
-use Rattle.cuts.specs.Groups.{HeldIn, Gives}
+use Rattle.cuts.specs.Groups.{HeldIn, GivesBy}
 use Rattle.cuts.specs.Measured.{cut_days}
-use Rattle.cuts.specs.Stretches.{stretches_of}
+use Rattle.cuts.specs.Stretches.{stretches_by}
 use Rattle.cuts.proofs.Cutting.{length_days}
 use Rattle.cuts.proofs.Grouping.{SomeHolds, stretch_says, stretch_period, day_covered}
 use Rattle.cuts.proofs.Parts.{part_of, over_over, over_before, over_after, all_part}
@@ -25,7 +25,7 @@ pub record Tallied (m : Measure) (by : List ℕ) (rows : List Row) (from upto ba
   pub rest : (k : ℕ) → (k < base) ⊎ (base + 2 * (upto - from) ≤ k) → get_or after k no_row ≡ get_or rows k no_row
   pub periods : (j : ℕ) → j < r → Period (bare (get_or after (base + j) no_row))
   pub rising : (i j : ℕ) → i < j → j < r → (get_or after (base + i) no_row).end ≤ (get_or after (base + j) no_row).first
-  pub gives : (j d : ℕ) → j < r → Holds (bare (get_or after (base + j) no_row)) d → Gives m by rows from upto d (get_or after (base + j) no_row)
+  pub gives : (j d : ℕ) → j < r → Holds (bare (get_or after (base + j) no_row)) d → GivesBy m by rows from upto d (get_or after (base + j) no_row)
   pub all : (d : ℕ) → HeldIn rows from upto d → HeldIn after base (base + r) d
 
 module _ (m : Measure) (rows : List Row) (from upto base : ℕ) (by : List ℕ) (order : from ≤ upto) (behind : upto ≤ base) (room : base + 2 * (upto - from) ≤ length rows)
@@ -42,7 +42,7 @@ module _ (m : Measure) (rows : List Row) (from upto base : ℕ) (by : List ℕ) 
   abbrev group : Row
   group = get_or rows from no_row
 
-  all_periods_lem : All (λ w. Period (bare w)) ws
+  all_periods_lem : AllOf (λ w. Period (bare w)) ws
   all_periods_lem = all_part (λ w. Period (bare w)) rows no_row from upto periods (omega arith)
 
   told : Told m ws cs
@@ -65,7 +65,7 @@ module _ (m : Measure) (rows : List Row) (from upto base : ℕ) (by : List ℕ) 
       (h.0 - from, (omega (arith, length-between rows from upto (omega arith)), subst (λ w. Holds (bare w) d) (sym same) h.1.2))
 
   module _ (before after part : List Row) (r : ℕ) (is : before ≡ over rows base end cs) (put : after ≡ put_mid base (end - base) before part) (same : length part ≡ length (between base end before))
-      (few : r ≤ length (between base end before)) (made : take r part ≡ stretches_of group by (between base end before)) where
+      (few : r ≤ length (between base end before)) (made : take r part ≡ stretches_by group by (between base end before)) where
     cuts_are : between base end before ≡ cs
     cuts_are = ap (between base end) is ∙ part_of rows base end (omega arith) room cs days_long
 
@@ -83,10 +83,10 @@ module _ (m : Measure) (rows : List Row) (from upto base : ℕ) (by : List ℕ) 
     rest_still k (inr l) = ap (λ t. get_or t k no_row) after_is ∙ over_after rows base end (omega arith) room part long k no_row l
 
     abbrev out : List Row
-    out = stretches_of group by cs
+    out = stretches_by group by cs
 
     made_is : take r part ≡ out
-    made_is = made ∙ ap (stretches_of group by) cuts_are
+    made_is = made ∙ ap (stretches_by group by) cuts_are
 
     out_long : length out ≡ r
     out_long = ap length (sym made_is) ∙ length-take-le r part (omega (arith, long, few_rows))
@@ -110,7 +110,7 @@ module _ (m : Measure) (rows : List Row) (from upto base : ℕ) (by : List ℕ) 
     rows_rise i j a lt =
         omega (arith, stretches_rise group by cs told.rises i j a (omega (arith, out_long)), ap (λ w. w.end) (row_at i (omega arith)), ap (λ w. w.first) (row_at j lt))
 
-    rows_give : (j d : ℕ) → j < r → Holds (bare (get_or after (base + j) no_row)) d → Gives m by rows from upto d (get_or after (base + j) no_row)
+    rows_give : (j d : ℕ) → j < r → Holds (bare (get_or after (base + j) no_row)) d → GivesBy m by rows from upto d (get_or after (base + j) no_row)
     rows_give j d lt h =
         let s = stretch_says m ws cs told group by (get_or after (base + j) no_row) (from_at j lt) d h in
         record { some = holder_at d s.0; values = s.1 }

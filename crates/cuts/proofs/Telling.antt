@@ -2,7 +2,7 @@
 use Rattle.std.proofs.Common.{◌≡◌, ℕ, suc, ◌+◌, ◌<◌, Bool, true, false, List, [], ◌∷◌, map, length, get_or, ℤ, pos, sym, refl, ap, ◌∙◌, subst, arith}
 use lib.ListN.{length-map}
 use lib.Signed.{lt_z}
-use Rattle.std.specs.List.{AllByRecursion as All}
+use Rattle.std.specs.List.{AllByRecursion as AllOf}
 use Rattle.std.proofs.ByRecursion.{All-get_or, All-weaker}
 use Rattle.std.proofs.lemmas.List.{get_or-map}
 use Rattle.std.proofs.lemmas.Int.{ints}
@@ -40,8 +40,8 @@ pub record Says (m : Measure) (ws : List Row) (c : Row) : Type 0 where
 
 pub record Told (m : Measure) (ws cs : List Row) : Type 0 where
   pub rises : Rises cs
-  pub begins : All (λ w. CutAt cs w.first) ws
-  pub ends : All (λ w. CutAt cs w.end) ws
+  pub begins : AllOf (λ w. CutAt cs w.first) ws
+  pub ends : AllOf (λ w. CutAt cs w.end) ws
   pub says : (j : ℕ) → j + 1 < length cs → (get_or cs j no_row).first < (get_or cs (j + 1) no_row).first → Says m ws (get_or cs j no_row)
 
 -- ---- the days
@@ -49,11 +49,11 @@ pub record Told (m : Measure) (ws cs : List Row) : Type 0 where
 cut_behind : (c b : Row) (cs : List Row) (d : ℕ) → CutAt cs d → CutAt (c ∷ b ∷ cs) d
 cut_behind c b cs d h = (suc (suc h.0), (omega (arith, h.1.0), h.1.1))
 
-opened_in : (m : Measure) (ws : List Row) → All (λ w. CutAt (cuts_of m ws) w.first) ws
+opened_in : (m : Measure) (ws : List Row) → AllOf (λ w. CutAt (cuts_of m ws) w.first) ws
 opened_in m [] = tt
 opened_in m (w ∷ ws) = ((0, (omega arith, refl)), All-weaker _ _ (λ u h. cut_behind (opened m w) (closed m w) (cuts_of m ws) u.first h) ws (opened_in m ws))
 
-closed_in : (m : Measure) (ws : List Row) → All (λ w. CutAt (cuts_of m ws) w.end) ws
+closed_in : (m : Measure) (ws : List Row) → AllOf (λ w. CutAt (cuts_of m ws) w.end) ws
 closed_in m [] = tt
 closed_in m (w ∷ ws) = ((1, (omega arith, refl)), All-weaker _ _ (λ u h. cut_behind (opened m w) (closed m w) (cuts_of m ws) u.end h) ws (closed_in m ws))
 
@@ -106,7 +106,7 @@ says_from : (m : Measure) (ws : List Row) (c : Row) (d : ℕ) (n z : ℤ) → c 
 says_from m ws c d n z is rows amounts = subst (Says m ws) (sym is) (record { rows = rows; amount_is = amounts })
 
 -- what changes comes to the number and the amount of the rows
-module _ (m : Measure) (ws : List Row) (ahead : All (λ w. w.first < w.end) ws) (each : (w : Row) → (changed m w).rows ≡ pos 1) (adds : (hs : List Row) → total (map (λ w. (changed m w).amount) hs) ≡ amount m hs) where
+module _ (m : Measure) (ws : List Row) (ahead : AllOf (λ w. w.first < w.end) ws) (each : (w : Row) → (changed m w).rows ≡ pos 1) (adds : (hs : List Row) → total (map (λ w. (changed m w).amount) hs) ≡ amount m hs) where
   abbrev cs : List Row
   cs = sorted (cuts_of m ws)
 
@@ -118,7 +118,7 @@ module _ (m : Measure) (ws : List Row) (ahead : All (λ w. w.first < w.end) ws) 
       says_from m ws _ d _ _ (totals_at cs j (omega arith)) (ap (lt_z (pos 0)) (count ∙ ap total (map_alike _ _ each (held ws d)) ∙ ones (held ws d)) ∙ some_length (held ws d)) (sum ∙ adds (held ws d))
 
 -- no change, so the least or the greatest is taken in from the start
-module _ (m : Measure) (e : Extreme) (x : ℕ) (ws : List Row) (bare-cuts : All (λ c. c ≡ cut_row c.first (pos 0) (pos 0)) (cuts_of m ws)) (means : (hs : List Row) → best (better e) (map (value x) hs) ≡ amount m hs) where
+module _ (m : Measure) (e : Extreme) (x : ℕ) (ws : List Row) (bare-cuts : AllOf (λ c. c ≡ cut_row c.first (pos 0) (pos 0)) (cuts_of m ws)) (means : (hs : List Row) → best (better e) (map (value x) hs) ≡ amount m hs) where
   says_bests : (j : ℕ) → j < length (sorted (cuts_of m ws)) → Says m ws (get_or (map (kept_by_rows e x ws) (sorted (cuts_of m ws))) j no_row)
   says_bests j lt =
       let cs = sorted (cuts_of m ws) in
@@ -128,21 +128,21 @@ module _ (m : Measure) (e : Extreme) (x : ℕ) (ws : List Row) (bare-cuts : All 
       (get_or-map (kept_by_rows e x ws) cs j no_row no_row lt ∙ ap (kept_by_rows e x ws) start ∙ bests_are e x d ws)
       (some_mark (held ws d)) (means (held ws d))
 
-bare_min : (i : ℕ) (ws : List Row) → All (λ c. c ≡ cut_row c.first (pos 0) (pos 0)) (cuts_of (Min i) ws)
+bare_min : (i : ℕ) (ws : List Row) → AllOf (λ c. c ≡ cut_row c.first (pos 0) (pos 0)) (cuts_of (Min i) ws)
 bare_min i [] = tt
 bare_min i (w ∷ ws) = (refl, (refl, bare_min i ws))
 
-bare_max : (i : ℕ) (ws : List Row) → All (λ c. c ≡ cut_row c.first (pos 0) (pos 0)) (cuts_of (Max i) ws)
+bare_max : (i : ℕ) (ws : List Row) → AllOf (λ c. c ≡ cut_row c.first (pos 0) (pos 0)) (cuts_of (Max i) ws)
 bare_max i [] = tt
 bare_max i (w ∷ ws) = (refl, (refl, bare_max i ws))
 
-says_at : (m : Measure) (ws : List Row) → All (λ w. w.first < w.end) ws → (j : ℕ) → j + 1 < length (sorted (cuts_of m ws)) → (get_or (sorted (cuts_of m ws)) j no_row).first < (get_or (sorted (cuts_of m ws)) (j + 1) no_row).first → Says m ws (get_or (cut_days m ws) j no_row)
+says_at : (m : Measure) (ws : List Row) → AllOf (λ w. w.first < w.end) ws → (j : ℕ) → j + 1 < length (sorted (cuts_of m ws)) → (get_or (sorted (cuts_of m ws)) j no_row).first < (get_or (sorted (cuts_of m ws)) (j + 1) no_row).first → Says m ws (get_or (cut_days m ws) j no_row)
 says_at Count ws h j lt step = says_totals Count ws h (λ w. refl) ones j lt step
 says_at (Sum i) ws h j lt step = says_totals (Sum i) ws h (λ w. refl) (λ hs. refl) j lt step
 says_at (Min i) ws h j lt step = says_bests (Min i) Least i ws (bare_min i ws) (λ hs. refl) j (omega arith)
 says_at (Max i) ws h j lt step = says_bests (Max i) Greatest i ws (bare_max i ws) (λ hs. refl) j (omega arith)
 
-pub cuts_tell : (m : Measure) (ws : List Row) → All (λ w. w.first < w.end) ws → Told m ws (cut_days m ws)
+pub cuts_tell : (m : Measure) (ws : List Row) → AllOf (λ w. w.first < w.end) ws → Told m ws (cut_days m ws)
 cuts_tell m ws h =
     let cs = sorted (cuts_of m ws) in
     let s = measured_days m ws cs in

@@ -14,15 +14,24 @@ use Rattle.cuts.specs.Amounts.{held, amount}
 abbrev pub most_rows : ℕ
 most_rows = most_work / 3
 
--- the grouping values of the group's row, then the amount
-abbrev pub tuple_of : Row → List ℕ → ℤ → List ℤ
-tuple_of group by amount = firsts most_columns (picked by group.values ++ (amount ∷ [])) (pos 0)
+-- the first few values of the group's row, then the amount
+abbrev pub tuple_of : Row → ℕ → ℤ → List ℤ
+tuple_of group width amount = firsts most_columns (firsts width group.values (pos 0) ++ (amount ∷ [])) (pos 0)
+
+-- the values of the group's row in the columns `by`, then the amount
+abbrev pub tuple_by : Row → List ℕ → ℤ → List ℤ
+tuple_by group by amount = firsts most_columns (picked by group.values ++ (amount ∷ [])) (pos 0)
 
 -- some row from `from` up to `upto` holds the day
 abbrev pub HeldIn : List Row → ℕ → ℕ → ℕ → Type 0
 HeldIn rows from upto d = (i : ℕ) × ((from ≤ i) × (i < upto) × Holds (bare (slice_index_or rows i no_row)) d)
 
 -- what a tallied row says of a day: some row of the group holds it, and the values are the group's, then the amount over the rows that hold it
-pub record Gives (m : Measure) (by : List ℕ) (rows : List Row) (from upto d : ℕ) (w : Row) : Type 0 where
+pub record Gives (m : Measure) (width : ℕ) (rows : List Row) (from upto d : ℕ) (w : Row) : Type 0 where
   pub some : HeldIn rows from upto d
-  pub values : w.values ≡ tuple_of (slice_index_or rows from no_row) by (amount m (held (between from upto rows) d))
+  pub values : w.values ≡ tuple_of (slice_index_or rows from no_row) width (amount m (held (between from upto rows) d))
+
+-- the same where the group's values are those in the columns `by`
+pub record GivesBy (m : Measure) (by : List ℕ) (rows : List Row) (from upto d : ℕ) (w : Row) : Type 0 where
+  pub some : HeldIn rows from upto d
+  pub values : w.values ≡ tuple_by (slice_index_or rows from no_row) by (amount m (held (between from upto rows) d))

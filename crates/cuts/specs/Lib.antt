@@ -7,3 +7,4 @@ pub mod Totals
 pub mod Bests
 pub mod Measured
 pub mod Stretches
+pub mod Widths

@@ -1,6 +1,6 @@
 // Cuts: the days at which a row begins or ends, each with what changes there.
 ghost use Rattle.std.specs.Prelude.{◌≡◌, ◌+◌, ◌-◌, ◌*◌, ◌≤◌, length};
-ghost use Rattle.std.specs.List.{between, AllByRecursion as All};
+ghost use Rattle.std.specs.List.{between, AllByRecursion as AllOf};
 ghost use Rattle.cuts.specs.Areas.{over};
 ghost use Rattle.cuts.specs.Cuts.{cut_row, changed, opened, closed, cuts_of};
 ghost use Rattle.cuts.specs.Amounts.{Fits, Within};
@@ -65,7 +65,7 @@ pub fn write(rows: &mut [Row], from: usize, upto: usize, base: usize, measure: M
     requires order { (from ≤ upto) × (upto ≤ base) }
     requires room { base + 2 * (upto - from) ≤ length rows.old }
     requires fits { Fits measure }
-    requires within { All (Within measure) (between from upto rows.old) }
+    requires within { AllOf (Within measure) (between from upto rows.old) }
     ensures { rows.new ≡ over rows.old base (base + 2 * (upto - from)) (cuts_of measure (between from upto rows.old)) }
 {
     for i in from..upto {

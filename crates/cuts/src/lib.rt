@@ -9,3 +9,4 @@ pub mod groups;
 pub mod measures;
 pub mod picks;
 mod stretches;
+pub mod theorems;

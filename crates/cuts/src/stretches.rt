@@ -1,16 +1,16 @@
 // The stretches between two cuts, as rows.
 ghost use Rattle.std.specs.Prelude.{◌≡◌, ◌<◌, ◌≤◌, length, take};
 ghost use Rattle.relation.specs.Bounds.{most_columns};
-ghost use Rattle.cuts.specs.Groups.{tuple_of};
-ghost use Rattle.cuts.specs.Stretches.{stretches_of};
+ghost use Rattle.cuts.specs.Groups.{tuple_by};
+ghost use Rattle.cuts.specs.Stretches.{stretches_by};
 
 use crate::picks::pick;
 use relation::rows::Row;
 
-// The grouping values of the group's row, then the amount.
-fn tuple(group: &Row, by: &[usize], amount: i64) -> [i64; 6]
+// The values of the group's row in the columns `by`, then the amount.
+fn tuple_by(group: &Row, by: &[usize], amount: i64) -> [i64; 6]
     requires { length by.now < most_columns }
-    ensures { result ≡ tuple_of group.now by.now amount }
+    ensures { result ≡ tuple_by group.now by.now amount }
 {
     let mut values = pick(&group.values, by);
     values[by.len()] = amount;
@@ -19,17 +19,17 @@ fn tuple(group: &Row, by: &[usize], amount: i64) -> [i64; 6]
 
 // Writes a row for each stretch between two neighbouring cuts that some row holds, in rising order, to the start of the cuts;
 // answers how many.
-pub fn emit(cuts: &mut [Row], group: &Row, by: &[usize]) -> usize
+pub fn emit_by(cuts: &mut [Row], group: &Row, by: &[usize]) -> usize
     requires { length by.now < most_columns }
     ensures few { result ≤ length cuts.old }
-    ensures stretches { take result cuts.new ≡ stretches_of group.now by.now cuts.old }
+    ensures stretches { take result cuts.new ≡ stretches_by group.now by.now cuts.old }
 {
     let mut made = 0;
     for i in 1..cuts.len() {
         let cut = cuts[i - 1];
         let next = cuts[i];
         if cut.values[0] > 0 && cut.first < next.first {
-            let values = tuple(group, by, cut.values[1]);
+            let values = tuple_by(group, by, cut.values[1]);
             cuts[made] = Row {
                 first: cut.first,
                 end: next.first,

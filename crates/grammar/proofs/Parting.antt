@@ -1,5 +1,5 @@
 -- Keywords, operands and terms are read just as they are written.
-use Rattle.std.proofs.Common.{◌≡◌, true, false, not, leb, ◌⊎◌, List, [], ◌∷◌, ◌++◌, length, get_or, pos, is_some, Some, None, codes, Option, sym, refl, ap, ◌∙◌, subst, ⊎_elim}
+use Rattle.std.proofs.Common.{◌≡◌, true, false, not, leb, List, [], ◌∷◌, ◌++◌, length, get_or, pos, is_some, Some, None, codes, Option, sym, refl, ap, ◌∙◌, subst, ⊎_elim}
 use Rattle.std.specs.Char.{is_ascii_lowercase}
 use Rattle.std.specs.Str.{bytes_eq}
 use Rattle.std.proofs.lemmas.Slice.Eq.{bytes_eq-Decides}

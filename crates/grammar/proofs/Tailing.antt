@@ -1,11 +1,10 @@
 -- The tails of a line are read just as they are written.
-use Rattle.std.proofs.Common.{◌≡◌, ℕ, ◌≤◌, Bool, true, false, ◌&&◌, leb, List, [], ◌∷◌, length, is_some, Some, None, Option, sym, refl, ap, ◌∙◌, subst, inl, inr, arith}
+use Rattle.std.proofs.Common.{◌≡◌, ℕ, ◌≤◌, Bool, true, ◌&&◌, leb, List, [], ◌∷◌, length, is_some, Some, None, Option, sym, refl, ap, ◌∙◌, subst, inl, inr, arith}
 use Rattle.std.specs.Str.{bytes_eq}
 use Rattle.std.proofs.lemmas.Slice.Eq.{bytes_eq-Decides}
 use Rattle.std.proofs.lemmas.Bool.{cond-true, and_parts, and_from, leb-true, le-leb, true≢false}
 use Rattle.words.specs.declared.names.Reserved.{Reserved}
 use Rattle.words.specs.declared.tokens.Position.TheVariants as position
-use Rattle.words.specs.Name.{reserved}
 use Rattle.words.specs.Token.{token, column}
 use Rattle.takers.specs.Take.{Text, ◌then◌, Val, column_in, nothing, value_of, all_values}
 use Rattle.takers.specs.Writing.{WritesValue, WritesColumn, spelled_reserved}

@@ -27,7 +27,8 @@ pub(crate) fn take_reserved<'a>(words: &mut Words<'a>, wanted: Reserved) -> Opti
 
 // Whether the next word is the reserved one, which is then taken.
 pub(crate) fn take_if<'a>(words: &mut Words<'a>, wanted: Reserved) -> bool
-    ensures { (take_reserved wanted (rest words.old) ≡ (if result then Some (rest words.new) else None)) × ((result ≡ false → words.new ≡ words.old)) }
+    ensures taken { take_reserved wanted (rest words.old) ≡ (if result then Some (rest words.new) else None) }
+    ensures kept { result ≡ false → words.new ≡ words.old }
 {
     let mut ahead = *words;
     match take_reserved(&mut ahead, wanted) {

@@ -1,7 +1,7 @@
 -- Two lists have one text only if they are one.
-use Rattle.std.proofs.Common.{◌≡◌, ℕ, zero, suc, ◌^◌, ◌<◌, ◌≤◌, true, ◌&&◌, leb, List, [], ◌∷◌, ◌++◌, map, length, ℤ, pos, negsuc, Some, decimal, Option, sym, refl, ap, ◌∙◌, ap₂, append_assoc, arith}
+use Rattle.std.proofs.Common.{◌≡◌, ℕ, suc, ◌^◌, ◌<◌, ◌≤◌, true, leb, List, [], ◌∷◌, ◌++◌, map, length, ℤ, pos, negsuc, Some, decimal, Option, sym, refl, ap, ◌∙◌, ap₂, append_assoc, arith}
 use lib.Signed.{mag}
-use Rattle.std.specs.List.{flat_map, AllByRecursion as All}
+use Rattle.std.specs.List.{flat_map, AllByRecursion as AllOf}
 use Rattle.std.specs.Str.{all_ascii_digits}
 use Rattle.std.specs.Char.{is_ascii_digit}
 use Rattle.std.specs.Fmt.{signed_decimal}
@@ -13,19 +13,18 @@ use Rattle.std.proofs.lemmas.Bool.{and_parts}
 use Rattle.std.proofs.lemmas.Bool.Decides.{nat_tests}
 use Rattle.relation.specs.declared.kinds.Kind.{Kind}
 use Rattle.relation.specs.declared.kinds.Kind.TheVariants as kind
-use Rattle.relation.specs.Bounds.{word_bytes}
 use Rattle.relation.specs.Lists.{every}
 use Rattle.relation.specs.Rows.{SpecRow, Period}
 use Rattle.relation.specs.Values.{word_byte, is_word, word_text, word_value, InKind, Number, Word}
 use Rattle.relation.proofs.Spelled.{words_inverse}
-use Rattle.listing.specs.Text.{space, line_end, quote, letter, spelled, value_text, values_text, row_text, header_text, list_text}
-use Rattle.listing.specs.Theorems.{Held, Listable, ListsDiffer}
+use Rattle.listing.specs.Text.{space, line_end, quote, letter, spelled, value_text, values_text, row_text, list_text}
+use Rattle.listing.specs.Theorems.{Held, ListsDiffer}
 use Rattle.listing.proofs.Read.{decimals_read}
 
 -- ---- a text that ends before a space or a line's end
 
 abbrev Solid : List ℕ → Type 0
-Solid xs = All (λ b. space < b) xs
+Solid xs = AllOf (λ b. space < b) xs
 
 -- where a byte up to the space ends the first part of both, the parts are the same
 cut : (xs us : List ℕ) (c d : ℕ) (ys vs : List ℕ) → Solid xs → Solid us → c ≤ space → d ≤ space → xs ++ c ∷ ys ≡ us ++ d ∷ vs → (xs ≡ us) × (ys ≡ vs)
@@ -122,7 +121,7 @@ row_same ks r s t u p q h g e =
     let tuple : r.tuple ≡ s.tuple = d.1 in
     (λ i. record { tuple = tuple i; first = first i; end = end i }, d.2)
 
-rows_same : (ks : List Kind) (rs ss : List SpecRow) → length rs ≡ length ss → All (λ r. Period r × Held ks r.tuple) rs → All (λ r. Period r × Held ks r.tuple) ss
+rows_same : (ks : List Kind) (rs ss : List SpecRow) → length rs ≡ length ss → AllOf (λ r. Period r × Held ks r.tuple) rs → AllOf (λ r. Period r × Held ks r.tuple) ss
     → flat_map (row_text ks) rs ≡ flat_map (row_text ks) ss → rs ≡ ss
 rows_same ks [] [] n h g e = refl
 rows_same ks [] (s ∷ ss) n h g e = absurd (omega arith)
@@ -158,5 +157,5 @@ lists_differ n m ks ls rs ss h g e =
     let f = cut (decimal (length rs)) (decimal (length ss)) line_end line_end _ _ (decimal_solid _ h.few) (decimal_solid _ g.few) (omega arith) (omega arith) d.1 in
     let kinds : ks ≡ ls = letters_same ks ls d.0 in
     let count : length rs ≡ length ss = decimal_injective _ _ h.few g.few f.0 in
-    let each : All (λ r. Period r × Held ks r.tuple) ss = rw kinds g.each in
+    let each : AllOf (λ r. Period r × Held ks r.tuple) ss = rw kinds g.each in
     (c.0, kinds, rows_same ks rs ss count h.each each (f.1 ∙ ap (λ l. flat_map (row_text l) ss) (sym kinds)))

@@ -21,7 +21,7 @@ ended room (Some at) text = cond (nat_le (length text) (room - at)) (Some (at + 
 -- the pen p has gone on by the text, to q: it knows where the text ends, and has written it if it writes and the text fits
 pub record Puts (p : Pen) (text : List ℕ) (q : Pen) : Type 0 where
   -- it holds the same reference to the bytes
-  pub same_bytes : q.bytes.name ≡ p.bytes.name
+  pub same_bytes : q.bytes.ghost_name ≡ p.bytes.ghost_name
   pub same_pass : q.pass ≡ p.pass
   pub same_size : length q.bytes.now ≡ length p.bytes.now
   pub ends : q.end ≡ ended (length p.bytes.now) p.end text

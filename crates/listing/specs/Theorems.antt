@@ -2,7 +2,7 @@
 use Rattle.std.specs.Prelude.{◌≡◌, ℕ, ◌+◌, ◌-◌, ◌*◌, ◌^◌, ◌<◌, true, List, [], ◌∷◌, length, ℤ, decimal, slice_index}
 use Rattle.std.specs.Int.Signed.{mag}
 use Rattle.std.specs.Str.{all_ascii_digits}
-use Rattle.std.specs.List.{AllByRecursion as All}
+use Rattle.std.specs.List.{AllByRecursion as AllOf}
 use Rattle.std.specs.Fmt.{signed_decimal}
 use Rattle.relation.specs.declared.kinds.Kind.{Kind}
 use Rattle.relation.specs.Rows.{SpecRow, Period}
@@ -35,9 +35,9 @@ Held (k ∷ ks) (z ∷ zs) = InKind k z × Held ks zs
 
 -- rows of a relation of the kinds, under a name whose bytes all come after the space
 pub record Listable (name : List ℕ) (kinds : List Kind) (rows : List SpecRow) : Type 0 where
-  pub named : All (λ b. space < b) name
+  pub named : AllOf (λ b. space < b) name
   pub few : length rows < 2 ^ 64
-  pub each : All (λ r. Period r × Held kinds r.tuple) rows
+  pub each : AllOf (λ r. Period r × Held kinds r.tuple) rows
 
 -- two lists with the same text are the same
 abbrev pub ListsDiffer : Type 0

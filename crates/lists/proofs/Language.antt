@@ -1,26 +1,25 @@
 -- The readers of a list's lines agree with what is written there.
-use Rattle.std.proofs.Common.{◌≡◌, ℕ, ◌<◌, ◌≤◌, Bool, true, false, cond, ◌&&◌, T, ltb, leb, ◌⊎◌, ◌↔◌, List, [], ◌∷◌, map, length, ℤ, pos, negsuc, nat_abs, ◌≤ℤ◌, IfErr, Some, None, Ok, Err, Option, Result, sym, refl, ap, ◌∙◌, subst, inl, inr, ⊎_elim, arith, MatchResult}
-use lib.Signed.{le_z, lt_z}
-use Rattle.std.specs.List.{AllByRecursion as All}
-use Rattle.std.proofs.lemmas.Bool.{cond-true, cond-false, and_parts, and_from, leb-true, le-leb, ltb-true, lt-ltb, leb-false, cases_Bool, true≢false}
+use Rattle.std.proofs.Common.{◌≡◌, ℕ, ◌<◌, ◌≤◌, Bool, true, false, T, ltb, leb, List, [], ◌∷◌, map, length, ℤ, pos, negsuc, nat_abs, IfErr, Some, None, Ok, Err, Option, Result, sym, refl, ap, ◌∙◌, subst, ⊎_elim, arith, MatchResult}
+use lib.Signed.{le_z}
+use Rattle.std.specs.List.{AllByRecursion as AllOf}
+use Rattle.std.proofs.lemmas.Bool.{cond-true, cond-false, and_parts, and_from, leb-true, le-leb, ltb-true, lt-ltb, cases_Bool, true≢false}
 use Rattle.relation.specs.declared.kinds.Kind.{Kind}
 use Rattle.relation.specs.declared.kinds.Kind.TheVariants as kind
 use Rattle.relation.specs.declared.columns.Kinds.{Kinds}
 use Rattle.relation.specs.declared.rows.Row.{Row}
 use Rattle.relation.specs.declared.refusals.Reason.{Reason}
 use Rattle.relation.specs.declared.refusals.Reason.TheVariants as reason
-use Rattle.relation.specs.Bounds.{most_columns, end_of_days, smallest_number, largest_number}
-use Rattle.relation.specs.Rows.{SpecRow, Period}
-use Rattle.relation.specs.Stored.{stored}
-use Rattle.relation.specs.Values.{is_word, word, word_value}
+use Rattle.relation.specs.Bounds.{most_columns, end_of_days, smallest_number}
+use Rattle.relation.specs.Rows.{SpecRow}
+use Rattle.relation.specs.Values.{is_word, word}
 use Rattle.words.specs.Name.{is_name}
 use Rattle.words.specs.Kinds.{kind_of, is_kinds, kept, kinds_of}
-use Rattle.takers.specs.Take.{Text, ◌then◌, Val, number_val, word_val, value_of, take_value, RowText, take_row}
-use Rattle.takers.specs.Writing.{WritesNumber, Name, WritesValue, WritesValues, WritesKinds}
+use Rattle.takers.specs.Take.{Text, ◌then◌, Val, number_val, word_val, take_value, RowText, take_row}
+use Rattle.takers.specs.Writing.{Name, WritesValue, WritesValues}
 use Rattle.takers.proofs.Options.{same_some, absent, then_some, cond_some, then_is}
 use Rattle.takers.proofs.Taking.{value_is, value_take, kinds_told, kinds_are, kinds_of_lem, kinds_is, row_read, row_take}
-use Rattle.lists.specs.ListLines.{or_else, two_words, header_line, as_kind, take_as, fits, fitted, bounded, bounded_word, all_bounded, is_period, row_with, row_of, row_line}
-use Rattle.lists.specs.ListLanguage.{WritesHeader, HeaderSays, HeaderRefused, ReadsHeader, WritesRow, HeldAs, Held, Fits, InBounds, RowSays, RowRefused, ReadsRow}
+use Rattle.lists.specs.ListLines.{or_else, header_line, as_kind, take_as, fits, fitted, bounded, bounded_word, all_bounded, is_period, row_with, row_of, row_line}
+use Rattle.lists.specs.ListLanguage.{HeaderSays, HeaderRefused, ReadsHeader, WritesRow, HeldAs, Held, Fits, InBounds, RowSays, RowRefused, ReadsRow}
 
 -- ---- the header
 
@@ -142,7 +141,7 @@ bounded_is : (v : Val) → InBounds v → bounded (Some v) ≡ true
 bounded_is (number_val z) h = and_from _ _ (truth _ h.0.le) (truth _ h.1.le)
 bounded_is (word_val q) h = refl
 
-bounds_told : (ts : List Text) (vs : List Val) → WritesValues ts vs → all_bounded ts ≡ true → All InBounds vs
+bounds_told : (ts : List Text) (vs : List Val) → WritesValues ts vs → all_bounded ts ≡ true → AllOf InBounds vs
 bounds_told [] [] h e = tt
 bounds_told [] (v ∷ vs) h e = absurd h
 bounds_told (t ∷ ts) [] h e = absurd h
@@ -150,7 +149,7 @@ bounds_told (t ∷ ts) (v ∷ vs) h e =
     let p = and_parts (bounded_word t) _ e in
     (bounded_told v (sym (ap bounded (value_is t v h.0)) ∙ p.0), bounds_told ts vs h.1 p.1)
 
-bounds_are : (ts : List Text) (vs : List Val) → WritesValues ts vs → All InBounds vs → all_bounded ts ≡ true
+bounds_are : (ts : List Text) (vs : List Val) → WritesValues ts vs → AllOf InBounds vs → all_bounded ts ≡ true
 bounds_are [] [] h e = refl
 bounds_are [] (v ∷ vs) h e = absurd h
 bounds_are (t ∷ ts) [] h e = absurd h

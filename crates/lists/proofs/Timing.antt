@@ -1,9 +1,7 @@
 -- The steps of a row that is made from a line's parts.
-use Rattle.std.proofs.Common.{◌≡◌, ℕ, Bool, true, false, cond, List, ℤ, nat_abs, Some, None, Ok, Err, Option, Result, sym, refl, ap, ◌∙◌, arith}
+use Rattle.std.proofs.Common.{◌≡◌, ℕ, Bool, true, false, List, ℤ, nat_abs, Some, None, Ok, Err, Option, sym, refl, ◌∙◌, arith}
 use Rattle.std.specs.Option.{option_map}
 use Rattle.std.proofs.lemmas.Bool.{cond-true, cond-false}
-use Rattle.relation.specs.declared.rows.Row.{Row}
-use Rattle.relation.specs.declared.refusals.Reason.{Reason}
 use Rattle.relation.specs.declared.refusals.Reason.TheVariants.{Misfit, NoPeriod, OutOfBounds}
 use Rattle.takers.specs.Take.{RowText}
 use Rattle.lists.specs.ListLines.{or_else, padded, is_period, all_bounded, row_with}

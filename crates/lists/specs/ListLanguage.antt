@@ -1,6 +1,6 @@
 -- The lines of a list as they are written, what they say, and what is wrong with a line that is refused.
-use Rattle.std.specs.Prelude.{◌≡◌, ℕ, ◌≤◌, ◌↔◌, List, [], ◌∷◌, length, ℤ, pos, IfErr, Ok, Result}
-use Rattle.std.specs.List.{AllByRecursion as All}
+use Rattle.std.specs.Prelude.{◌≡◌, ◌≤◌, ◌↔◌, List, [], ◌∷◌, length, ℤ, pos, IfErr, Ok, Result}
+use Rattle.std.specs.List.{AllByRecursion as AllOf}
 use Rattle.relation.specs.declared.kinds.Kind.{Kind}
 use Rattle.relation.specs.declared.kinds.Kind.TheVariants as kind
 use Rattle.relation.specs.declared.columns.Kinds.{Kinds}
@@ -78,7 +78,7 @@ InBounds (word_val q) = Unit {0}
 
 abbrev pub RowSays : List Kind → List Text → Row → Type 0
 RowSays ks ws row =
-    (r : SpecRow) × (vs : List Val) × WritesRow ws (pos r.first) (pos r.end) vs × Fits ks vs r.tuple × Period r × All InBounds vs × (stored r ≡ row)
+    (r : SpecRow) × (vs : List Val) × WritesRow ws (pos r.first) (pos r.end) vs × Fits ks vs r.tuple × Period r × AllOf InBounds vs × (stored r ≡ row)
 
 abbrev pub RowRefused : List Kind → List Text → Reason → Type 0
 RowRefused ks ws reason.Form = (f u : ℤ) (vs : List Val) → WritesRow ws f u vs → ⊥
@@ -86,7 +86,7 @@ RowRefused ks ws reason.Misfit = (f : ℤ) × (u : ℤ) × (vs : List Val) × Wr
 RowRefused ks ws reason.NoPeriod =
     (f : ℤ) × (u : ℤ) × (vs : List Val) × (zs : List ℤ) × WritesRow ws f u vs × Fits ks vs zs × ((r : SpecRow) → pos r.first ≡ f → pos r.end ≡ u → Period r → ⊥)
 RowRefused ks ws reason.OutOfBounds =
-    (r : SpecRow) × (vs : List Val) × WritesRow ws (pos r.first) (pos r.end) vs × Fits ks vs r.tuple × Period r × (All InBounds vs → ⊥)
+    (r : SpecRow) × (vs : List Val) × WritesRow ws (pos r.first) (pos r.end) vs × Fits ks vs r.tuple × Period r × (AllOf InBounds vs → ⊥)
 RowRefused ks ws reason.Name = ⊥
 RowRefused ks ws reason.ScriptSize = ⊥
 RowRefused ks ws reason.NoEntry = ⊥

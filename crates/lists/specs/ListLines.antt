@@ -1,5 +1,5 @@
 -- What the lines of a list say, and for which reason a line is refused.
-use Rattle.std.specs.Prelude.{ℕ, Bool, true, false, cond, ◌&&◌, List, [], ◌∷◌, length, ℤ, pos, Some, None, Ok, Err, Option, Result, int_le, int_lt, nat_le, unsigned_abs}
+use Rattle.std.specs.Prelude.{Bool, true, cond, ◌&&◌, List, [], ◌∷◌, length, ℤ, pos, Some, None, Ok, Err, Option, Result, int_le, int_lt, nat_le, unsigned_abs}
 use Rattle.relation.specs.declared.kinds.Kind.{Kind}
 use Rattle.relation.specs.declared.kinds.Kind.TheVariants as kind
 use Rattle.relation.specs.declared.columns.Kinds.{Kinds}

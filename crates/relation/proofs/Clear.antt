@@ -1,6 +1,6 @@
 -- What listing order and coalescing say together of two rows: the later has a greater tuple, or begins after a day between.
 use Rattle.std.proofs.Common.{◌≡◌, ℕ, ◌<◌, max, ◌⊎◌, List, [], ◌∷◌, sym, ap, ◌∙◌, subst, inl, inr, true≢false, arith}
-use Rattle.std.specs.List.{AllByRecursion as All}
+use Rattle.std.specs.List.{AllByRecursion as AllOf}
 use Rattle.std.specs.Ordering.{is_lt, ordering_reverse}
 use Rattle.std.specs.Cmp.{int_cmp_total}
 use Rattle.std.proofs.lemmas.Bool.{cases_order}
@@ -38,16 +38,16 @@ clear_two r s p q n (inr a) = step (apart r s p q (n a.0))
     step (inl h) = inr (a.0, h)
     step (inr h) = absurd (omega arith)
 
-clear_all : (r : SpecRow) (rows : List SpecRow) → Period r → All Period rows → All (λ s. r.tuple ≡ s.tuple → Share r s ⊎ Meet r s → ⊥) rows → All (Ahead r) rows → All (Clear r) rows
+clear_all : (r : SpecRow) (rows : List SpecRow) → Period r → AllOf Period rows → AllOf (λ s. r.tuple ≡ s.tuple → Share r s ⊎ Meet r s → ⊥) rows → AllOf (Ahead r) rows → AllOf (Clear r) rows
 clear_all r [] p ps cs ls = tt
 clear_all r (s ∷ rows) p ps cs ls = (clear_two r s p ps.0 cs.0 ls.0, clear_all r rows p ps.1 cs.1 ls.1)
 
-pub clear : (rows : List SpecRow) → All Period rows → Coalesced rows → Listed rows → Pairwise Clear rows
+pub clear : (rows : List SpecRow) → AllOf Period rows → Coalesced rows → Listed rows → Pairwise Clear rows
 clear [] ps cs ls = tt
 clear (r ∷ rows) ps cs ls = (clear_all r rows ps.0 ps.1 cs.0 ls.0, clear rows ps.1 cs.1 ls.1)
 
 -- what the later rows hold lies behind the row r
-pub behind : (r : SpecRow) (rows : List SpecRow) (d : ℕ) (t : Tuple) → All (Clear r) rows → In rows d t → Below r.tuple t ⊎ ((r.tuple ≡ t) × (r.end < d))
+pub behind : (r : SpecRow) (rows : List SpecRow) (d : ℕ) (t : Tuple) → AllOf (Clear r) rows → In rows d t → Below r.tuple t ⊎ ((r.tuple ≡ t) × (r.end < d))
 behind r [] d t c h = absurd h
 behind r (s ∷ rows) d t c (inl h) = step c.0
   where

@@ -1,6 +1,6 @@
 -- No list with the day sets of a coalesced one is shorter: each of its rows holds the first day of at most one row of that.
 use Rattle.std.proofs.Common.{◌≡◌, ℕ, ◌<◌, ◌≤◌, ◌⊎◌, List, [], ◌∷◌, length, sym, refl, ◌∙◌, subst, inl, inr, arith}
-use Rattle.std.specs.List.{AllByRecursion as All}
+use Rattle.std.specs.List.{AllByRecursion as AllOf}
 use Rattle.relation.specs.Lists.{Any, Pairwise}
 use Rattle.relation.specs.Sets.{Tuple}
 use Rattle.relation.specs.Rows.{SpecRow, Period, Holds, Share, Meet, Coalesced}
@@ -13,7 +13,7 @@ abbrev pub Touchless : SpecRow → SpecRow → Type 0
 Touchless r s = r.tuple ≡ s.tuple → Share r s ⊎ Meet r s → ⊥
 
 -- no row of its tuple holds the day at which a coalesced row ends
-not_by : (r : SpecRow) (rows : List SpecRow) → Period r → All Period rows → All (Touchless r) rows → In rows r.end r.tuple → ⊥
+not_by : (r : SpecRow) (rows : List SpecRow) → Period r → AllOf Period rows → AllOf (Touchless r) rows → In rows r.end r.tuple → ⊥
 not_by r [] p ps cs h = h
 not_by r (s ∷ rows) p ps cs (inl h) = step (apart r s p ps.0 (cs.0 (sym h.0)))
   where
@@ -30,7 +30,7 @@ not_first r s rows p q c n (inl h) = step (apart r s p q (c h.0))
     step (inl k) = omega arith
     step (inr k) = omega arith
 
-ended : (rows : List SpecRow) → All Period rows → Coalesced rows → All (λ r. In rows r.end r.tuple → ⊥) rows
+ended : (rows : List SpecRow) → AllOf Period rows → Coalesced rows → AllOf (λ r. In rows r.end r.tuple → ⊥) rows
 ended [] ps cs = tt
 ended (r ∷ rows) ps cs = (here, all_both later rows ps.1 (all_both both rows cs.0 (ended rows ps.1 cs.1)))
   where
@@ -66,7 +66,7 @@ module _ (l m : List SpecRow) (agree : Agreed l m) where
   abbrev Fit : SpecRow → Type 0
   Fit r = Period r × (In l r.end r.tuple → ⊥)
 
-  pairs : (rows : List SpecRow) → All Fit rows → Coalesced rows → Pairwise (λ r s. (p : SpecRow) → Hits r p → Hits s p → ⊥) rows
+  pairs : (rows : List SpecRow) → AllOf Fit rows → Coalesced rows → Pairwise (λ r s. (p : SpecRow) → Hits r p → Hits s p → ⊥) rows
   pairs [] fs cs = tt
   pairs (r ∷ rows) fs cs = (all_both later rows fs.1 cs.0, pairs rows fs.1 cs.1)
     where
@@ -74,11 +74,11 @@ module _ (l m : List SpecRow) (agree : Agreed l m) where
       later s f c = never_both r s fs.0.0 f.0 c fs.0.1 f.1
 
   -- each row of m is within the sets of m
-  within : (rows : List SpecRow) → ((d : ℕ) (t : Tuple) → In rows d t → In m d t) → All (λ p. (d : ℕ) → Holds p d → In m d p.tuple) rows
+  within : (rows : List SpecRow) → ((d : ℕ) (t : Tuple) → In rows d t → In m d t) → AllOf (λ p. (d : ℕ) → Holds p d → In m d p.tuple) rows
   within [] f = tt
   within (p ∷ rows) f = (λ d h. f d p.tuple (inl (refl, h)), within rows λ d t h. f d t (inr h))
 
-  hit : (rows : List SpecRow) → All Period rows → ((d : ℕ) (t : Tuple) → In rows d t → In l d t) → All (λ r. Any (Hits r) m) rows
+  hit : (rows : List SpecRow) → AllOf Period rows → ((d : ℕ) (t : Tuple) → In rows d t → In l d t) → AllOf (λ r. Any (Hits r) m) rows
   hit [] ps f = tt
   hit (r ∷ rows) ps f = (any_with found m (within m (λ d t h. h)) held, hit rows ps.1 λ d t h. f d t (inr h))
     where
@@ -88,7 +88,7 @@ module _ (l m : List SpecRow) (agree : Agreed l m) where
       held : In m r.first r.tuple
       held = (agree r.first (omega arith) r.tuple).0 (f r.first r.tuple (inl (refl, omega arith)))
 
-  few : All Period l → Coalesced l → length l ≤ length m
+  few : AllOf Period l → Coalesced l → length l ≤ length m
   few ps cs = no_fewer Hits l m (hit l ps (λ d t h. h)) (pairs l (all_both (λ r p n. (p, n)) l ps (ended l ps cs)) cs)
 
 pub fewest : theorems.Fewest

@@ -1,6 +1,6 @@
 -- A list is canonical where its rows are periods and each is clear of the later ones; a row more at the end.
 use Rattle.std.proofs.Common.{◌≡◌, ◌⊎◌, List, [], ◌∷◌, ◌++◌, sym, ◌∙◌, inl, inr, arith}
-use Rattle.std.specs.List.{AllByRecursion as All}
+use Rattle.std.specs.List.{AllByRecursion as AllOf}
 use Rattle.std.proofs.ByRecursion.{All-push}
 use Rattle.relation.specs.Lists.{Pairwise}
 use Rattle.relation.specs.Sets.{Tuple, TupleSet, Same, has}
@@ -20,32 +20,32 @@ untouched r s p q (inr h) e (inl t) = omega arith
 untouched r s p q (inr h) e (inr (inl t)) = omega arith
 untouched r s p q (inr h) e (inr (inr t)) = omega arith
 
-all_ahead : (r : SpecRow) (rows : List SpecRow) → Period r → All (Clear r) rows → All (Ahead r) rows
+all_ahead : (r : SpecRow) (rows : List SpecRow) → Period r → AllOf (Clear r) rows → AllOf (Ahead r) rows
 all_ahead r [] p c = tt
 all_ahead r (s ∷ rows) p c = (ahead r s p c.0, all_ahead r rows p c.1)
 
-all_untouched : (r : SpecRow) (rows : List SpecRow) → Period r → All Period rows → All (Clear r) rows → All (λ s. r.tuple ≡ s.tuple → Share r s ⊎ Meet r s → ⊥) rows
+all_untouched : (r : SpecRow) (rows : List SpecRow) → Period r → AllOf Period rows → AllOf (Clear r) rows → AllOf (λ s. r.tuple ≡ s.tuple → Share r s ⊎ Meet r s → ⊥) rows
 all_untouched r [] p ps c = tt
 all_untouched r (s ∷ rows) p ps c = (untouched r s p ps.0 c.0, all_untouched r rows p ps.1 c.1)
 
-listed : (rows : List SpecRow) → All Period rows → Pairwise Clear rows → Listed rows
+listed : (rows : List SpecRow) → AllOf Period rows → Pairwise Clear rows → Listed rows
 listed [] ps cs = tt
 listed (r ∷ rows) ps cs = (all_ahead r rows ps.0 cs.0, listed rows ps.1 cs.1)
 
-coalesced : (rows : List SpecRow) → All Period rows → Pairwise Clear rows → Coalesced rows
+coalesced : (rows : List SpecRow) → AllOf Period rows → Pairwise Clear rows → Coalesced rows
 coalesced [] ps cs = tt
 coalesced (r ∷ rows) ps cs = (all_untouched r rows ps.0 ps.1 cs.0, coalesced rows ps.1 cs.1)
 
-pub canonical_from_clear : (rows : List SpecRow) → All Period rows → Pairwise Clear rows → Canonical rows
+pub canonical_from_clear : (rows : List SpecRow) → AllOf Period rows → Pairwise Clear rows → Canonical rows
 canonical_from_clear rows ps cs = record { periods = ps; coalesced = coalesced rows ps cs; listed = listed rows ps cs }
 
 -- ---- one row more, as a loop writes them
 
-pairwise_push : {X : Type 0} (R : X → X → Type 0) (xs : List X) (x : X) → Pairwise R xs → All (λ y. R y x) xs → Pairwise R (xs ++ (x ∷ []))
+pairwise_push : {X : Type 0} (R : X → X → Type 0) (xs : List X) (x : X) → Pairwise R xs → AllOf (λ y. R y x) xs → Pairwise R (xs ++ (x ∷ []))
 pairwise_push R [] x p h = (tt, tt)
 pairwise_push R (y ∷ xs) x p h = (All-push (R y) xs x p.0 h.0, pairwise_push R xs x p.1 h.1)
 
-pub canonical_push : (rows : List SpecRow) (r : SpecRow) → Canonical rows → Period r → All (λ s. Clear s r) rows → Canonical (rows ++ (r ∷ []))
+pub canonical_push : (rows : List SpecRow) (r : SpecRow) → Canonical rows → Period r → AllOf (λ s. Clear s r) rows → Canonical (rows ++ (r ∷ []))
 canonical_push rows r c p h = canonical_from_clear (rows ++ (r ∷ [])) (All-push Period rows r c.periods p) (pairwise_push Clear rows r (clear rows c.periods c.coalesced c.listed) h)
 
 -- ---- sets by the test

@@ -1,6 +1,6 @@
 -- Day sets by the rows that hold the day.
 use Rattle.std.proofs.Common.{◌≡◌, ℕ, Bool, true, false, cond, ltb, leb, ◌⊎◌, ◌↔◌, List, [], ◌∷◌, Decides, refl, ap₂, inl, inr, arith}
-use Rattle.std.specs.List.{AllByRecursion as All}
+use Rattle.std.specs.List.{AllByRecursion as AllOf}
 use Rattle.std.proofs.lemmas.Bool.{leb-true, le-leb}
 use Rattle.std.proofs.lemmas.Bool.Decides.{Decides-and, Decides-ltb, Decides-like, same_from_decides}
 use Rattle.relation.specs.Lists.{Any, Member}
@@ -41,6 +41,6 @@ pub agreed : (l m : List SpecRow) → Agree l m → Agreed l m
 agreed l m a d h t = (λ i. (day_set m d t).0 ((a d h t).0 ((day_set l d t).1 i)), λ i. (day_set l d t).0 ((a d h t).1 ((day_set m d t).1 i)))
 
 -- the set stays the same over days between which no row begins or ends
-pub on_constant : (rows : List SpecRow) (d e : ℕ) → All (λ r. Holds r d ↔ Holds r e) rows → on rows d ≡ on rows e
+pub on_constant : (rows : List SpecRow) (d e : ℕ) → AllOf (λ r. Holds r d ↔ Holds r e) rows → on rows d ≡ on rows e
 on_constant [] d e h = refl
 on_constant (r ∷ rows) d e h = ap₂ (λ b S. cond b (r.tuple ∷ S) S) (same_from_decides (holds r d) (holds r e) (holds_decides r d) (Decides-like (holds r e) h.0.1 h.0.0 (holds_decides r e))) (on_constant rows d e h.1)

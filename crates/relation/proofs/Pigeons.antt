@@ -1,9 +1,9 @@
 -- One element taken out of a list; and where each x has a y of its own, the ys are no fewer.
 use Rattle.std.proofs.Common.{◌≡◌, suc, ◌≤◌, ◌⊎◌, List, [], ◌∷◌, length, sym, refl, ap, inl, inr, arith}
-use Rattle.std.specs.List.{AllByRecursion as All}
+use Rattle.std.specs.List.{AllByRecursion as AllOf}
 use Rattle.relation.specs.Lists.{Any, Pairwise, Member, Distinct}
 
-pub all_both : {X : Type 0} {P Q S : X → Type 0} (f : (x : X) → P x → Q x → S x) (xs : List X) → All P xs → All Q xs → All S xs
+pub all_both : {X : Type 0} {P Q S : X → Type 0} (f : (x : X) → P x → Q x → S x) (xs : List X) → AllOf P xs → AllOf Q xs → AllOf S xs
 all_both f [] p q = tt
 all_both f (x ∷ xs) p q = (f x p.0 q.0, all_both f xs p.1 q.1)
 
@@ -13,12 +13,12 @@ any_map f (x ∷ xs) (inl p) = inl (f x p)
 any_map f (x ∷ xs) (inr a) = inr (any_map f xs a)
 
 -- with a fact of every element
-pub any_with : {X : Type 0} {P Q S : X → Type 0} (f : (x : X) → P x → Q x → S x) (xs : List X) → All P xs → Any Q xs → Any S xs
+pub any_with : {X : Type 0} {P Q S : X → Type 0} (f : (x : X) → P x → Q x → S x) (xs : List X) → AllOf P xs → Any Q xs → Any S xs
 any_with f [] p a = a
 any_with f (x ∷ xs) p (inl q) = inl (f x p.0 q)
 any_with f (x ∷ xs) p (inr a) = inr (any_with f xs p.1 a)
 
-pub never : {X : Type 0} {P Q : X → Type 0} (f : (x : X) → P x → Q x → ⊥) (xs : List X) → All P xs → Any Q xs → ⊥
+pub never : {X : Type 0} {P Q : X → Type 0} (f : (x : X) → P x → Q x → ⊥) (xs : List X) → AllOf P xs → Any Q xs → ⊥
 never f [] p a = a
 never f (x ∷ xs) p (inl q) = f x p.0 q
 never f (x ∷ xs) p (inr a) = never f xs p.1 a
@@ -60,12 +60,12 @@ module _ {X : Type 0} (P : X → Type 0) where
   others_any Q (x ∷ xs) (inr a) (inl q) = inl q
   others_any Q (x ∷ xs) (inr a) (inr b) = inr (others_any Q xs a b)
 
-  pub all_chosen : (Q : X → Type 0) (xs : List X) (a : Any P xs) → All Q xs → Q (chosen xs a)
+  pub all_chosen : (Q : X → Type 0) (xs : List X) (a : Any P xs) → AllOf Q xs → Q (chosen xs a)
   all_chosen Q [] a q = absurd a
   all_chosen Q (x ∷ xs) (inl p) q = q.0
   all_chosen Q (x ∷ xs) (inr a) q = all_chosen Q xs a q.1
 
-  pub all_others : (Q : X → Type 0) (xs : List X) (a : Any P xs) → All Q xs → All Q (others xs a)
+  pub all_others : (Q : X → Type 0) (xs : List X) (a : Any P xs) → AllOf Q xs → AllOf Q (others xs a)
   all_others Q [] a q = absurd a
   all_others Q (x ∷ xs) (inl p) q = q.1
   all_others Q (x ∷ xs) (inr a) q = (q.0, all_others Q xs a q.1)
@@ -83,7 +83,7 @@ module _ {X : Type 0} (P : X → Type 0) where
   not_again (x ∷ xs) (inr a) d (inr m) = not_again xs a d.1 m
 
 module _ {X Y : Type 0} (R : X → Y → Type 0) where
-  pub no_fewer : (xs : List X) (ys : List Y) → All (λ x. Any (R x) ys) xs → Pairwise (λ x z. (y : Y) → R x y → R z y → ⊥) xs → length xs ≤ length ys
+  pub no_fewer : (xs : List X) (ys : List Y) → AllOf (λ x. Any (R x) ys) xs → Pairwise (λ x z. (y : Y) → R x y → R z y → ⊥) xs → length xs ≤ length ys
   no_fewer [] ys a p = omega arith
   no_fewer (x ∷ xs) ys a p =
       let y : Y = chosen (R x) ys a.0 in

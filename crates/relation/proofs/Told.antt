@@ -1,6 +1,6 @@
 -- A canonical list is told by its day sets.
 use Rattle.std.proofs.Common.{◌≡◌, ℕ, ◌<◌, ◌≤◌, ◌⊎◌, List, [], ◌∷◌, sym, refl, ◌∙◌, subst, ap₂, inl, inr, arith}
-use Rattle.std.specs.List.{AllByRecursion as All}
+use Rattle.std.specs.List.{AllByRecursion as AllOf}
 use Rattle.relation.specs.Lists.{Pairwise, Member}
 use Rattle.relation.specs.Sets.{Tuple, Below}
 use Rattle.relation.specs.Rows.{SpecRow, Period, on}
@@ -9,7 +9,7 @@ use Rattle.relation.proofs.Held.{In, Agreed, agreed}
 use Rattle.relation.proofs.Clear.{Clear, clear, behind, below_asym, below_irrefl}
 
 -- the first row begins with the least tuple and day that the rows hold
-least : (s : SpecRow) (rows : List SpecRow) (d : ℕ) (t : Tuple) → Period s → All (Clear s) rows → In (s ∷ rows) d t → Below s.tuple t ⊎ ((s.tuple ≡ t) × (s.first ≤ d))
+least : (s : SpecRow) (rows : List SpecRow) (d : ℕ) (t : Tuple) → Period s → AllOf (Clear s) rows → In (s ∷ rows) d t → Below s.tuple t ⊎ ((s.tuple ≡ t) × (s.first ≤ d))
 least s rows d t p c (inl h) = inr (h.0, h.1.0)
 least s rows d t p c (inr h) = step (behind s rows d t c h)
   where
@@ -24,7 +24,7 @@ starts r s (inr e) (inl c) = absurd (below_irrefl r.tuple s.tuple (sym e.0) c)
 starts r s (inr e) (inr f) = (f.0, omega arith)
 
 -- the row r ends no sooner than s, since nothing holds its end
-no_sooner : (r s : SpecRow) (rows : List SpecRow) → Period r → All (Clear r) rows → r.tuple ≡ s.tuple → (In (r ∷ rows) r.end s.tuple → ⊥)
+no_sooner : (r s : SpecRow) (rows : List SpecRow) → Period r → AllOf (Clear r) rows → r.tuple ≡ s.tuple → (In (r ∷ rows) r.end s.tuple → ⊥)
 no_sooner r s rows p c e (inl h) = omega arith
 no_sooner r s rows p c e (inr h) = step (behind r rows r.end s.tuple c h)
   where
@@ -33,7 +33,7 @@ no_sooner r s rows p c e (inr h) = step (behind r rows r.end s.tuple c h)
     step (inr g) = omega arith
 
 -- what the rows after the first hold
-rest : (r s : SpecRow) (rows others : List SpecRow) (d : ℕ) (t : Tuple) → r.tuple ≡ s.tuple → r.end ≡ s.end → All (Clear r) rows → In rows d t → In (s ∷ others) d t → In others d t
+rest : (r s : SpecRow) (rows others : List SpecRow) (d : ℕ) (t : Tuple) → r.tuple ≡ s.tuple → r.end ≡ s.end → AllOf (Clear r) rows → In rows d t → In (s ∷ others) d t → In others d t
 rest r s rows others d t e f c h (inr k) = k
 rest r s rows others d t e f c h (inl k) = step (behind r rows d t c h)
   where
@@ -41,7 +41,7 @@ rest r s rows others d t e f c h (inl k) = step (behind r rows d t c h)
     step (inl b) = absurd (below_irrefl r.tuple t (e ∙ k.0) b)
     step (inr g) = absurd (omega arith)
 
-same : (l m : List SpecRow) → All Period l → Pairwise Clear l → All Period m → Pairwise Clear m → Agreed l m → l ≡ m
+same : (l m : List SpecRow) → AllOf Period l → Pairwise Clear l → AllOf Period m → Pairwise Clear m → Agreed l m → l ≡ m
 same [] [] pl cl pm cm a = refl
 same [] (s ∷ m) pl cl pm cm a = absurd ((a s.first (omega arith) s.tuple).1 (inl (refl, omega arith)))
 same (r ∷ l) [] pl cl pm cm a = absurd ((a r.first (omega arith) r.tuple).0 (inl (refl, omega arith)))

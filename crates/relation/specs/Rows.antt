@@ -1,6 +1,6 @@
 -- Days, rows and their day sets; coalesced rows and listing order.
 use Rattle.std.specs.Prelude.{◌≡◌, ℕ, ◌<◌, ◌≤◌, Bool, cond, ◌&&◌, ◌⊎◌, List, [], ◌∷◌, nat_le, nat_lt}
-use Rattle.std.specs.List.{AllByRecursion as All}
+use Rattle.std.specs.List.{AllByRecursion as AllOf}
 use Rattle.relation.specs.Bounds.{end_of_days}
 use Rattle.relation.specs.Lists.{Pairwise}
 use Rattle.relation.specs.Sets.{Tuple, Below, TupleSet, Same}
@@ -54,7 +54,7 @@ abbrev pub Listed : List SpecRow → Type 0
 Listed rows = Pairwise Ahead rows
 
 pub record Canonical (rows : List SpecRow) : Type 0 where
-  pub periods : All Period rows
+  pub periods : AllOf Period rows
   pub coalesced : Coalesced rows
   pub listed : Listed rows
 

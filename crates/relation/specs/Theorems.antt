@@ -1,6 +1,6 @@
 -- The theorems on day sets and canonical lists. Each is the contract of a function of src/theorems.rt.
 use Rattle.std.specs.Prelude.{◌≡◌, ℕ, ◌<◌, ◌≤◌, ◌↔◌, List, length, take, pos, ◌<ℤ◌, slice_index_or}
-use Rattle.std.specs.List.{AllByRecursion as All}
+use Rattle.std.specs.List.{AllByRecursion as AllOf}
 use Rattle.relation.specs.Lists.{Any, Member}
 use Rattle.relation.specs.Sets.{Tuple, Below, TupleSet}
 use Rattle.relation.specs.Rows.{SpecRow, Period, Holds, on, Agree, Canonical, Lists}
@@ -23,4 +23,4 @@ OneList = (l m : List SpecRow) (f : ℕ → TupleSet) → Lists l f → Lists m 
 
 -- no list of rows with the sets of a canonical list is shorter than that
 abbrev pub Fewest : Type 0
-Fewest = (l m : List SpecRow) → Canonical l → All Period m → Agree l m → length l ≤ length m
+Fewest = (l m : List SpecRow) → Canonical l → AllOf Period m → Agree l m → length l ≤ length m

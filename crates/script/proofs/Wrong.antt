@@ -1,6 +1,6 @@
 -- The line that the check answers is the first bad one, or that of a load that is not ended.
 use Rattle.std.proofs.Common.{◌≡◌, ℕ, suc, ◌+◌, ◌-◌, ◌<◌, false, ltb, ◌⊎◌, List, [], ◌∷◌, ◌++◌, length, take, Some, None, Ok, Err, codes, Option, Result, sym, refl, ap, ◌∙◌, subst, inl, inr, ⊎_elim, arith, MatchResult}
-use Rattle.std.specs.List.{AllByRecursion as All}
+use Rattle.std.specs.List.{AllByRecursion as AllOf}
 use Rattle.std.specs.Option.{option_map}
 use Rattle.std.proofs.lemmas.Bool.{or_cases, or_parts, ltb-true, ltb-false, cases_Bool}
 use Rattle.relation.specs.declared.kinds.Kind.{Kind}
@@ -88,12 +88,12 @@ abbrev NoEnd : Text → Type 0
 NoEnd u = Says u end → ⊥
 
 abbrev Loads : ℕ → List Text → ℕ → Type 0
-Loads n ts m = (before : List Text) × (t : Text) × (after : List Text) × (ts ≡ before ++ t ∷ after) × (m ≡ n + length before) × ((a : Text) × (ks : List Kind) × Says t (load a ks)) × All NoEnd after
+Loads n ts m = (before : List Text) × (t : Text) × (after : List Text) × (ts ≡ before ++ t ∷ after) × (m ≡ n + length before) × ((a : Text) × (ks : List Kind) × Says t (load a ks)) × AllOf NoEnd after
 
 other_line : (t : Text) (l : Line) → said t ≡ Some l → (end ≡ l → ⊥) → NoEnd t
 other_line t l e ne s = ne (same_some end l (sym (line_written (texts (words t)) end s) ∙ e))
 
-open_or : (n : ℕ) (o : Load) (t : Text) (ts : List Text) (m : ℕ) (l : Line) → said t ≡ Some l → stands n o l ≡ Some (Open m) → All NoEnd ts → ((o ≡ Open m) × All NoEnd (t ∷ ts)) ⊎ Loads n (t ∷ ts) m
+open_or : (n : ℕ) (o : Load) (t : Text) (ts : List Text) (m : ℕ) (l : Line) → said t ≡ Some l → stands n o l ≡ Some (Open m) → AllOf NoEnd ts → ((o ≡ Open m) × AllOf NoEnd (t ∷ ts)) ⊎ Loads n (t ∷ ts) m
 open_or n o t ts m skip w e h = inl (same_some _ _ e, (other_line t skip w (λ q. let z : ◌≡◌ {A = ℕ} 0 1 = cc in omega arith), h))
 open_or n Closed t ts m (load a ks) w e h =
     let same : n ≡ m = cc (same_some (Open n) (Open m) e) in
@@ -110,7 +110,7 @@ open_or n (Open j) t ts m (show a) w e h = absent (Open m) e
 open_or n Closed t ts m (query a q) w e h = let q = same_some Closed (Open m) e in let z : ◌≡◌ {A = ℕ} 0 1 = cc in absurd (omega arith)
 open_or n (Open j) t ts m (query a q) w e h = absent (Open m) e
 
-loaded : (n : ℕ) (o : Load) (ts : List Text) (m : ℕ) → reach n o ts ≡ Some (Open m) → ((o ≡ Open m) × All NoEnd ts) ⊎ Loads n ts m
+loaded : (n : ℕ) (o : Load) (ts : List Text) (m : ℕ) → reach n o ts ≡ Some (Open m) → ((o ≡ Open m) × AllOf NoEnd ts) ⊎ Loads n ts m
 loaded n o [] m e = inl (same_some o (Open m) e, tt)
 loaded n o (t ∷ ts) m e =
     let s = then_some (step n o t) (λ q. reach (n + 1) q ts) (Open m) e in

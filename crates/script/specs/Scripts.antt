@@ -1,6 +1,6 @@
 -- The language, and what is wrong with a text that is not in it.
 use Rattle.std.specs.Prelude.{◌≡◌, ℕ, ◌+◌, ◌-◌, ◌<◌, ◌≤◌, Bool, true, false, ◌⊎◌, List, [], ◌∷◌, ◌++◌, length, take}
-use Rattle.std.specs.List.{AllByRecursion as All}
+use Rattle.std.specs.List.{AllByRecursion as AllOf}
 use Rattle.relation.specs.declared.kinds.Kind.{Kind}
 use Rattle.relation.specs.declared.refusals.Reason.{Reason}
 use Rattle.relation.specs.declared.refusals.Reason.TheVariants as reason
@@ -57,7 +57,7 @@ abbrev pub Unended : List Text → ℕ → Type 0
 Unended ts n =
     Begins ts
     × ((before : List Text) × (t : Text) × (after : List Text) × (ts ≡ before ++ t ∷ after) × (n ≡ length before + 1)
-    × ((a : Text) × (ks : List Kind) × Says t (load a ks)) × All (λ u. Says u end → ⊥) after)
+    × ((a : Text) × (ks : List Kind) × Says t (load a ks)) × AllOf (λ u. Says u end → ⊥) after)
 
 -- over its size, or a line that is bad
 abbrev pub WrongBy : List ℕ → Reason → ℕ → Type 0

@@ -1,6 +1,6 @@
 -- The members of two lists together, of a filter and of a map; each tuple of a set once.
 use Rattle.std.proofs.Common.{◌≡◌, Bool, true, false, cond, ◌⊎◌, ◌↔◌, List, [], ◌∷◌, ◌++◌, map, Decides, filter, sym, refl, ap, ◌∙◌, subst, inl, inr}
-use Rattle.std.specs.List.{AllByRecursion as All}
+use Rattle.std.specs.List.{AllByRecursion as AllOf}
 use Rattle.std.proofs.lemmas.Bool.{false≢true}
 use Rattle.relation.specs.Lists.{Any, Member, Distinct}
 use Rattle.relation.specs.Sets.{Tuple, TupleSet, Same, has}
@@ -72,7 +72,7 @@ pub once_same : (S : TupleSet) → Same (once S) S
 once_same [] t = (λ m. m, λ m. m)
 once_same (s ∷ S) t = once_more (has S s) s S (once S) (has_decides S s) (once_same S) t
 
-pub not_in : (s : Tuple) (S : TupleSet) → (Member S s → ⊥) → All (λ t. s ≡ t → ⊥) S
+pub not_in : (s : Tuple) (S : TupleSet) → (Member S s → ⊥) → AllOf (λ t. s ≡ t → ⊥) S
 not_in s [] n = tt
 not_in s (t ∷ S) n = (λ e. n (inl (sym e)), not_in s S λ m. n (inr m))
 

@@ -1,6 +1,6 @@
 -- Each row of a tally's canonical list begins where a row of its group begins or ends.
 use Rattle.std.proofs.Common.{◌≡◌, ℕ, zero, suc, ◌*◌, ◌<◌, ◌≤◌, Bool, true, false, cond, ◌&&◌, ◌||◌, eqb, ◌⊎◌, ◌↔◌, List, [], ◌∷◌, ◌++◌, map, length, take, Decides, sym, refl, ap, ◌∙◌, subst, inl, inr, arith}
-use Rattle.std.specs.List.{AllByRecursion as All}
+use Rattle.std.specs.List.{AllByRecursion as AllOf}
 use Rattle.std.proofs.lemmas.List.{length-append, length-map}
 use Rattle.std.proofs.lemmas.Bool.{false≢true}
 use Rattle.std.proofs.lemmas.Bool.Decides.{Decides-and, Decides-or, Decides-eqb}
@@ -19,11 +19,11 @@ use Rattle.relation.proofs.TupleSets.{equal_decides}
 use Rattle.tallies.proofs.Members.{any_left, any_right}
 use Rattle.tallies.proofs.Grouped.{front, tally_rule, one_per_group}
 
-any_or_all : {X : Type 0} (p : X → Bool) (P : X → Type 0) → ((x : X) → Decides (p x) (P x)) → (xs : List X) → Any P xs ⊎ All (λ x. P x → ⊥) xs
+any_or_all : {X : Type 0} (p : X → Bool) (P : X → Type 0) → ((x : X) → Decides (p x) (P x)) → (xs : List X) → Any P xs ⊎ AllOf (λ x. P x → ⊥) xs
 any_or_all p P d [] = inr tt
 any_or_all p P d (x ∷ xs) = step (p x) refl (any_or_all p P d xs)
   where
-    step : (b : Bool) → p x ≡ b → Any P xs ⊎ All (λ y. P y → ⊥) xs → (P x ⊎ Any P xs) ⊎ ((P x → ⊥) × All (λ y. P y → ⊥) xs)
+    step : (b : Bool) → p x ≡ b → Any P xs ⊎ AllOf (λ y. P y → ⊥) xs → (P x ⊎ Any P xs) ⊎ ((P x → ⊥) × AllOf (λ y. P y → ⊥) xs)
     step true e r = inl (inl ((d x).0 e))
     step false e (inl a) = inl (inr a)
     step false e (inr h) = inr ((λ q. false≢true (sym e ∙ (d x).1 q)), h)
@@ -34,7 +34,7 @@ module _ (e : ℕ) where
   abbrev Fresh : List SpecRow → SpecRow → Type 0
   Fresh rows r = suc e ≡ r.first → In rows e r.tuple → ⊥
 
-  by_later : (r : SpecRow) (rows : List SpecRow) → Period r → All Period rows → All (Touchless r) rows → Fresh rows r
+  by_later : (r : SpecRow) (rows : List SpecRow) → Period r → AllOf Period rows → AllOf (Touchless r) rows → Fresh rows r
   by_later r [] p ps cs f h = h
   by_later r (s ∷ rows) p ps cs f (inl h) = step (apart r s p ps.0 (cs.0 (sym h.0)))
     where
@@ -51,7 +51,7 @@ module _ (e : ℕ) where
       step (inl k) = omega arith
       step (inr k) = omega arith
 
-  fresh : (rows : List SpecRow) → All Period rows → Coalesced rows → All (Fresh rows) rows
+  fresh : (rows : List SpecRow) → AllOf Period rows → Coalesced rows → AllOf (Fresh rows) rows
   fresh [] ps cs = tt
   fresh (r ∷ rows) ps cs = (here, all_both later rows ps.1 (all_both both rows cs.0 (fresh rows ps.1 cs.1)))
     where
@@ -75,7 +75,7 @@ module _ (w : Tally) (by : List ℕ) (rows : List SpecRow) where
   event_decides : (f : ℕ) (g : Tuple) (s : SpecRow) → Decides (equal (picked by s.tuple) g && (eqb s.first f || eqb s.end f)) (Event f g s)
   event_decides f g s = Decides-and (equal (picked by s.tuple) g) (eqb s.first f || eqb s.end f) (equal_decides (picked by s.tuple) g) (Decides-or (eqb s.first f) (eqb s.end f) (Decides-eqb s.first f) (Decides-eqb s.end f))
 
-  still : (e : ℕ) (g u : Tuple) → picked by u ≡ g → All (λ s. Event (suc e) g s → ⊥) rows → Member (on rows (suc e)) u ↔ Member (on rows e) u
+  still : (e : ℕ) (g u : Tuple) → picked by u ≡ g → AllOf (λ s. Event (suc e) g s → ⊥) rows → Member (on rows (suc e)) u ↔ Member (on rows e) u
   still e g u k n = (λ m. (day_set rows e u).1 (any_with back rows n ((day_set rows (suc e) u).0 m)), λ m. (day_set rows (suc e) u).1 (any_with forth rows n ((day_set rows e u).0 m)))
     where
       back : (s : SpecRow) → (Event (suc e) g s → ⊥) → (s.tuple ≡ u) × Holds s (suc e) → (s.tuple ≡ u) × Holds s e
@@ -84,7 +84,7 @@ module _ (w : Tally) (by : List ℕ) (rows : List SpecRow) where
       forth : (s : SpecRow) → (Event (suc e) g s → ⊥) → (s.tuple ≡ u) × Holds s e → (s.tuple ≡ u) × Holds s (suc e)
       forth s n h = let q : s.end ≡ suc e → ⊥ = λ x. n (ap (picked by) h.0 ∙ k, inr x) in (h.0, omega arith)
 
-  as_before : (e : ℕ) (x : Tuple) → Tallied w by (on rows (suc e)) x → All (λ s. Event (suc e) (take (length by) x) s → ⊥) rows → Tallied w by (on rows e) x
+  as_before : (e : ℕ) (x : Tuple) → Tallied w by (on rows (suc e)) x → AllOf (λ s. Event (suc e) (take (length by) x) s → ⊥) rows → Tallied w by (on rows e) x
   as_before e x h n =
       let t = h.0 in
       let k = h.1.1.1 in
@@ -99,11 +99,11 @@ module _ (w : Tally) (by : List ℕ) (rows : List SpecRow) where
       any_map (λ s i. (ap (picked by) i.0 ∙ sym g, inl (omega arith))) rows ((day_set rows 0 t).0 k.0)
   event_at (suc e) x h n = step (any_or_all (λ s. equal (picked by s.tuple) (take (length by) x) && (eqb s.first (suc e) || eqb s.end (suc e))) (Event (suc e) (take (length by) x)) (event_decides (suc e) (take (length by) x)) rows)
     where
-      step : Any (Event (suc e) (take (length by) x)) rows ⊎ All (λ s. Event (suc e) (take (length by) x) s → ⊥) rows → Any (Event (suc e) (take (length by) x)) rows
+      step : Any (Event (suc e) (take (length by) x)) rows ⊎ AllOf (λ s. Event (suc e) (take (length by) x) s → ⊥) rows → Any (Event (suc e) (take (length by) x)) rows
       step (inl a) = a
       step (inr a) = absurd (n e refl (as_before e x h a))
 
-all_swap : {X : Type 0} (P : ℕ → X → Type 0) (xs : List X) → ((e : ℕ) → All (P e) xs) → All (λ x. (e : ℕ) → P e x) xs
+all_swap : {X : Type 0} (P : ℕ → X → Type 0) (xs : List X) → ((e : ℕ) → AllOf (P e) xs) → AllOf (λ x. (e : ℕ) → P e x) xs
 all_swap P [] h = tt
 all_swap P (x ∷ xs) h = (λ e. (h e).0, all_swap P xs λ e. (h e).1)
 
@@ -131,7 +131,7 @@ module _ (w : Tally) (by : List ℕ) (rows l : List SpecRow) (c : Lists l (λ d.
   placed r (inl a) = any_left (Hit r) (ends true rows) (ends false rows) a
   placed r (inr a) = any_right (Hit r) (ends true rows) (ends false rows) a
 
-  hit : (xs : List SpecRow) → All Period xs → All (λ r. (e : ℕ) → Fresh e l r) xs → ((d : ℕ) (t : Tuple) → In xs d t → In l d t) → All (λ r. Any (Hit r) (ends true rows ++ ends false rows)) xs
+  hit : (xs : List SpecRow) → AllOf Period xs → AllOf (λ r. (e : ℕ) → Fresh e l r) xs → ((d : ℕ) (t : Tuple) → In xs d t → In l d t) → AllOf (λ r. Any (Hit r) (ends true rows ++ ends false rows)) xs
   hit [] ps fs f = tt
   hit (r ∷ xs) ps fs f = (placed r (sides r m rows (event_at w by rows r.first r.tuple ((tally_rule w by (on rows r.first) r.tuple).0 m) before)), hit xs ps.1 fs.1 λ d t h. f d t (inr h))
     where
@@ -148,7 +148,7 @@ module _ (w : Tally) (by : List ℕ) (rows l : List SpecRow) (c : Lists l (λ d.
       let m : Member (tally w by (on rows r.first)) s.tuple = subst (λ d. Member (tally w by (on rows d)) s.tuple) (sym f) b.1 in
       n (one_per_group w by (on rows r.first) r.tuple s.tuple a.1 m (sym a.0.0 ∙ b.0.0)) (inl (r.first, omega arith))
 
-  pairs : (xs : List SpecRow) → All Period xs → Coalesced xs → Pairwise (λ r s. (y : Bool × SpecRow) → Hit r y → Hit s y → ⊥) xs
+  pairs : (xs : List SpecRow) → AllOf Period xs → Coalesced xs → Pairwise (λ r s. (y : Bool × SpecRow) → Hit r y → Hit s y → ⊥) xs
   pairs [] ps cs = tt
   pairs (r ∷ xs) ps cs = (all_both (λ s q n. two r s ps.0 q n) xs ps.1 cs.0, pairs xs ps.1 cs.1)
 

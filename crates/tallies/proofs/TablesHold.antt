@@ -1,6 +1,6 @@
 -- The tables: the sets by `grind`, on a day that is a variable.
 use Rattle.std.proofs.Common.{◌≡◌, ℕ, List, refl, inl, inr, arith, lit<, lit≤}
-use Rattle.std.specs.List.{AllByRecursion as All}
+use Rattle.std.specs.List.{AllByRecursion as AllOf}
 use Rattle.std.proofs.lemmas.Bool.Decides.{nat_tests}
 use Rattle.relation.specs.Lists.{Pairwise}
 use Rattle.relation.specs.Sets.{Tuple, TupleSet, has}
@@ -9,7 +9,7 @@ use Rattle.tallies.specs.Examples.{Tables, one}
 use Rattle.relation.proofs.Clear.{Clear}
 use Rattle.relation.proofs.FromClear.{canonical_from_clear, same_from_has}
 
-by_test : (rows : List SpecRow) (f : ℕ → TupleSet) → All Period rows → Pairwise Clear rows → ((d : ℕ) (t : Tuple) → has (on rows d) t ≡ has (f d) t) → Lists rows f
+by_test : (rows : List SpecRow) (f : ℕ → TupleSet) → AllOf Period rows → Pairwise Clear rows → ((d : ℕ) (t : Tuple) → has (on rows d) t ≡ has (f d) t) → Lists rows f
 by_test rows f ps cs h = record { canonical = canonical_from_clear rows ps cs; sets = λ d _. same_from_has (on rows d) (f d) (h d) }
 
 pub hold : Tables

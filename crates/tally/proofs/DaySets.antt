@@ -21,7 +21,7 @@ use Rattle.tallies.proofs.Members.{from_map, to_map}
 use Rattle.tallies.proofs.Grouped.{set_tallied}
 use Rattle.tallies.proofs.RowsTallied.{held_in_has, rows_tallied}
 use Rattle.cuts.specs.Amounts.{amount}
-use Rattle.cuts.specs.Groups.{tuple_of}
+use Rattle.cuts.specs.Groups.{tuple_by}
 use Rattle.tally.specs.Results.{measure_of, Narrow, in_group, Says, Results}
 use Rattle.tally.proofs.Measuring.{picked_stored, in_group_stored, amount_stored}
 
@@ -51,7 +51,7 @@ module _ (w : Tally) (narrow : Narrow w) (by : List ℕ) (columns : All (λ c. c
   given_long d t = omega (arith, length-append (picked by t) (value w t (group by (on xs d) t) ∷ []), length-map by (λ c. column c t))
 
   -- what a result row says of the group of x
-  said : (x : SpecRow) (d : ℕ) → Member (on xs d) x.tuple → tuple_of (stored x) by (amount (measure_of w) (in_group by (stored x) d (map stored xs))) ≡ firsts most_columns (given d x.tuple) (pos 0)
+  said : (x : SpecRow) (d : ℕ) → Member (on xs d) x.tuple → tuple_by (stored x) by (amount (measure_of w) (in_group by (stored x) d (map stored xs))) ≡ firsts most_columns (given d x.tuple) (pos 0)
   said x d m =
       let t = x.tuple in
       ap₂ (λ ps a. firsts most_columns (ps ++ (a ∷ [])) (pos 0)) (picked_stored by t columns)
@@ -67,7 +67,7 @@ module _ (w : Tally) (narrow : Narrow w) (by : List ℕ) (columns : All (λ c. c
   values_said : (i d : ℕ) (u : Row) → i < length xs → Holds (get_or xs i no_spec) d → Says (measure_of w) by (map stored xs) d (get_or (map stored xs) i no_row) u → u.values ≡ firsts most_columns (given d (get_or xs i no_spec).tuple) (pos 0)
   values_said i d u lt h s =
       s.1
-      ∙ ap (λ g. tuple_of g by (amount (measure_of w) (in_group by g d (map stored xs)))) (row_at i lt)
+      ∙ ap (λ g. tuple_by g by (amount (measure_of w) (in_group by g d (map stored xs)))) (row_at i lt)
       ∙ said (get_or xs i no_spec) d (member_at i d lt h)
 
   -- a row of the tallied rows that a result row speaks of

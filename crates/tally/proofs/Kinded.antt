@@ -18,7 +18,7 @@ use Rattle.tallies.specs.declared.rules.Tally.TheVariants.{Count, Sum, Min, Max}
 use Rattle.tallies.specs.Tallies.{once, value, group}
 use Rattle.tallies.proofs.Grouped.{groups, value_is}
 use Rattle.tallies.proofs.Members.{from_map}
-use Rattle.tally.specs.Tallying.{measurable, fitting, Outside}
+use Rattle.tally.specs.Tallying.{measurable, Outside}
 use Rattle.tally.specs.Kinds.{kind_at, value_kind, tallied_kinds, TalliedFit}
 use Rattle.tally.proofs.Collected.{cell_within}
 

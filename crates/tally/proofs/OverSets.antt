@@ -3,7 +3,6 @@ use Rattle.std.proofs.Common.{◌≡◌, ℕ, ◌⊎◌, List, ◌∷◌, Ok, Er
 use Rattle.relation.specs.declared.refusals.Reason.{Reason}
 use Rattle.relation.specs.declared.refusals.Refusal.{Refusal}
 use Rattle.relation.specs.declared.rows.Row.{Row}
-use Rattle.relation.specs.Lists.{Member}
 use Rattle.relation.specs.Rows.{SpecRow, Lists}
 use Rattle.relation.specs.Sets.{Tuple, TupleSet, Same}
 use Rattle.relation.specs.Values.{Number}

@@ -17,7 +17,7 @@ use Rattle.relation.proofs.TupleSets.{equal_decides}
 use Rattle.collect.specs.Areas.{no_row, bare}
 use Rattle.cuts.specs.declared.measures.Measure.{Measure}
 use Rattle.cuts.specs.Amounts.{held, amount}
-use Rattle.cuts.specs.Groups.{tuple_of, HeldIn, Gives}
+use Rattle.cuts.specs.Groups.{tuple_by, HeldIn, GivesBy}
 use Rattle.tally.specs.Gathered.{Alike, Together, Run}
 use Rattle.tally.specs.Results.{in_group, Says, Results}
 
@@ -132,7 +132,7 @@ module _ (m : Measure) (by : List ℕ) (n : ℕ) (ws rows : List Row) (from end 
         (other_group (get_or ws (upto + k) no_row) g d (λ e. run.ends (omega arith) (together from upto (upto + k) (omega arith) (omega arith) b (sym (e ∙ of)))))))
 
     -- a row of the run's tally says what the group comes to
-    says_run : (i d : ℕ) (u : Row) → from ≤ i → i < upto → Holds (bare u) d → u.values ≡ tuple_of (get_or rows from no_row) by (amount m (held (between from upto rows) d)) → Says m by ws d (get_or ws i no_row) u
+    says_run : (i d : ℕ) (u : Row) → from ≤ i → i < upto → Holds (bare u) d → u.values ≡ tuple_by (get_or rows from no_row) by (amount m (held (between from upto rows) d)) → Says m by ws d (get_or ws i no_row) u
     says_run i d u low high h is =
         let of = run.alike i low high in
         (h, is ∙ ap₂ (λ ps z. firsts most_columns (ps ++ (z ∷ [])) (pos 0)) (ap (λ g. picked by g.values) (row_kept from lt) ∙ sym of) (ap (λ t. amount m (held t d)) run_kept ∙ ap (amount m) (sym (group_run (get_or ws i no_row) d of))))
@@ -141,7 +141,7 @@ module _ (m : Measure) (by : List ℕ) (n : ℕ) (ws rows : List Row) (from end 
         (few' : r ≤ 2 * (upto - from))
         (rest : (k : ℕ) → (k < end) ⊎ (end + 2 * (upto - from) ≤ k) → get_or rows' k no_row ≡ get_or rows k no_row)
         (periods' : (j : ℕ) → j < r → Period (bare (get_or rows' (end + j) no_row)))
-        (gives : (j d : ℕ) → j < r → Holds (bare (get_or rows' (end + j) no_row)) d → Gives m by rows from upto d (get_or rows' (end + j) no_row))
+        (gives : (j d : ℕ) → j < r → Holds (bare (get_or rows' (end + j) no_row)) d → GivesBy m by rows from upto d (get_or rows' (end + j) no_row))
         (all : (d : ℕ) → HeldIn rows from upto d → HeldIn rows' end (end + r) d) where
       still : (k : ℕ) → k < end → get_or rows' k no_row ≡ get_or rows k no_row
       still k l = rest k (inl l)
@@ -150,10 +150,10 @@ module _ (m : Measure) (by : List ℕ) (n : ℕ) (ws rows : List Row) (from end 
       new_period : (k : ℕ) → end ≤ k → k < end + r → Period (bare (get_or rows' k no_row))
       new_period k low high = let is : end + (k - end) ≡ k = omega arith in subst (λ j. Period (bare (get_or rows' j no_row))) is (periods' (k - end) (omega arith))
 
-      new_gives : (k d : ℕ) → end ≤ k → k < end + r → Holds (bare (get_or rows' k no_row)) d → Gives m by rows from upto d (get_or rows' k no_row)
+      new_gives : (k d : ℕ) → end ≤ k → k < end + r → Holds (bare (get_or rows' k no_row)) d → GivesBy m by rows from upto d (get_or rows' k no_row)
       new_gives k d low high h =
           let is : end + (k - end) ≡ k = omega arith in
-          subst (λ j. Gives m by rows from upto d (get_or rows' j no_row)) is (gives (k - end) d (omega arith) (subst (λ j. Holds (bare (get_or rows' j no_row)) d) (sym is) h))
+          subst (λ j. GivesBy m by rows from upto d (get_or rows' j no_row)) is (gives (k - end) d (omega arith) (subst (λ j. Holds (bare (get_or rows' j no_row)) d) (sym is) h))
 
       front_still : take n rows' ≡ ws
       front_still =

@@ -10,7 +10,7 @@ use Rattle.relation.specs.Operations.{picked}
 use Rattle.relation.specs.Sets.{Tuple, TupleSet, Same, column}
 use Rattle.relation.specs.Rows.{Day, Period, Holds, on}
 use Rattle.relation.specs.Stored.{firsts, meant}
-use Rattle.relation.specs.Values.{in_kind, Number}
+use Rattle.relation.specs.Values.{in_kind}
 use Rattle.relation.proofs.Every.{every_at}
 use Rattle.relation.proofs.Held.{In, day_set}
 use Rattle.relation.proofs.KindsTold.{kinds_told}

@@ -14,7 +14,7 @@ use Rattle.tallies.specs.declared.rules.Tally.TheVariants as tally
 use Rattle.cuts.specs.declared.measures.Measure.{Measure}
 use Rattle.cuts.specs.declared.measures.Measure.TheVariants.{Count, Sum, Min, Max}
 use Rattle.cuts.specs.Amounts.{value, amount}
-use Rattle.cuts.specs.Groups.{tuple_of}
+use Rattle.cuts.specs.Groups.{tuple_by}
 
 -- what a tally measures, by the index of a value, which counts from 0
 abbrev pub measure_of : Tally → Measure
@@ -36,7 +36,7 @@ in_group by g d rows = filter (λ w. holds (bare w) d && equal (picked by w.valu
 
 -- the row w says of the day what the group of g comes to
 abbrev pub Says : Measure → List ℕ → List Row → ℕ → Row → Row → Type 0
-Says m by rows d g w = Holds (bare w) d × (w.values ≡ tuple_of g by (amount m (in_group by g d rows)))
+Says m by rows d g w = Holds (bare w) d × (w.values ≡ tuple_by g by (amount m (in_group by g d rows)))
 
 -- the rows `made` say, on each day that they hold, what a group of the rows comes to, and each group has its day
 pub record Results (m : Measure) (by : List ℕ) (rows made : List Row) : Type 0 where

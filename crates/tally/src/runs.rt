@@ -9,7 +9,7 @@ ghost use Rattle.cuts.specs.Groups.{most_rows};
 ghost use Rattle.tally.specs.Gathered.{Together, Run};
 ghost use Rattle.tally.specs.Results.{Results};
 
-use cuts::groups::tally_group;
+use cuts::groups::tally_group_by;
 use cuts::measures::Measure;
 use cuts::picks::pick;
 use relation::rows::Row;
@@ -56,7 +56,7 @@ pub fn tally_groups(
     let mut end = n;
     while from < n {
         let upto = group_end(&rows[0..n], by, from);
-        end += tally_group(rows, nodes, from, upto, end, by, measure);
+        end += tally_group_by(rows, nodes, from, upto, end, by, measure);
         from = upto;
     }
     end

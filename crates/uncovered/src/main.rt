@@ -1,4 +1,4 @@
-// Which instruments were out on a day without cover, at what value and at what total?
+// Which instruments were out on a day without cover, and at what value?
 // uncovered HIRES COVERS VALUES FROM UNTIL: three lists, the instrument first in each, and a stretch of days.
 #![tactic(auto)]
 
@@ -7,10 +7,9 @@ use collect::collects::collect_rows;
 use lists::files::read_rows;
 use lists::header::read_header;
 use lists::show::ListText;
-use plans::questions::{list_bare, list_out, list_uncovered, list_valued, total_uncovered};
+use plans::questions::{list_bare, list_out, list_uncovered, list_valued};
 use relation::bounds::MOST_WORK;
 use relation::columns::Kinds;
-use relation::kinds::Kind;
 use relation::refusals::Refusal;
 use relation::rows::Row;
 use source::tables::Table;
@@ -18,9 +17,6 @@ use std::alloc::{AllocError, Global};
 use std::{env, fs};
 use tree::Node;
 use words::lines::Lines;
-
-// The owner stands in the third column of the list of values.
-const OWNER: usize = 3;
 
 // A list as it was read: its kinds, and its rows coalesced.
 #[derive(Drop)]
@@ -139,50 +135,6 @@ fn answer(
     work.show(rt, "asked", values.kinds, count)
 }
 
-// Finds the totals on each day, for each group of equal values in the columns `by`; answers the number of rows.
-fn total(
-    hires: &List,
-    covers: &List,
-    values: &List,
-    days: (u32, u32),
-    by: &[usize],
-    work: &mut Work,
-) -> Result<usize, Refusal> {
-    total_uncovered(
-        Table::open(hires.rows.as_slice(), hires.kinds)?,
-        Table::open(covers.rows.as_slice(), covers.kinds)?,
-        Table::open(values.rows.as_slice(), values.kinds)?,
-        days.0,
-        days.1,
-        by,
-        work.rows.as_mut_slice(),
-        work.index.as_mut_slice(),
-    )
-}
-
-// Prints the total value on each day, of all and of each owner.
-fn answer_totals(
-    rt: &HostRuntime,
-    hires: &List,
-    covers: &List,
-    values: &List,
-    days: (u32, u32),
-) -> anyhow::Result<()> {
-    let mut kinds = Kinds {
-        count: 1,
-        at: [Kind::Number; 6],
-    };
-    let mut work = Work::new(rt.alloc())?;
-    println!(rt; "value out without cover on each day:")?;
-    let count = total(hires, covers, values, days, &[], &mut work)?;
-    work.show(rt, "total", kinds, count)?;
-    kinds.count = 2;
-    kinds.at[0] = values.kinds.at[OWNER - 1];
-    println!(rt; "the same by owner:")?;
-    let count = total(hires, covers, values, days, &[OWNER], &mut work)?;
-    work.show(rt, "owners", kinds, count)
-}
-
 fn run(rt: &HostRuntime) -> anyhow::Result<()> {
     let mut args = env::args(rt)?;
     let _program = args.next();
@@ -200,8 +152,7 @@ fn run(rt: &HostRuntime) -> anyhow::Result<()> {
     let values = load(rt, values.as_str())?;
     let first = first.as_str().parse::<u32>()?;
     let end = end.as_str().parse::<u32>()?;
-    answer(rt, &hires, &covers, &values, first, end)?;
-    answer_totals(rt, &hires, &covers, &values, (first, end))
+    answer(rt, &hires, &covers, &values, first, end)
 }
 
 fn main(rt: HostRuntime) -> anyhow::Result<()> {

@@ -1,21 +1,21 @@
 -- The words that are cut from a line are those that stand in it, and so the lines of a text.
 use Rattle.std.proofs.Common.{◌≡◌, ℕ, ◌+◌, ◌-◌, ◌≤◌, eqb, ◌⊎◌, List, [], ◌∷◌, ◌++◌, length, sym, refl, ap, ◌∙◌, subst, inl, inr, ⊎_elim, append_assoc, append-nil, arith}
-use Rattle.std.specs.List.{AllByRecursion as All}
+use Rattle.std.specs.List.{AllByRecursion as AllOf}
 use Rattle.std.proofs.lemmas.List.{length-append}
 use Rattle.std.proofs.lemmas.Bool.{cond-true, cond-false, eq-eqb, ne_eqb, cases_eq}
-use Rattle.words.specs.Words.{Cut, ended, words_from, words}
-use Rattle.words.specs.Lines.{closed, lines_from, lines}
+use Rattle.words.specs.Words.{Cut, ended, words_from}
+use Rattle.words.specs.Lines.{closed, lines_from}
 use Rattle.words.specs.Parted.{Apart, Parted, WordsParted, Ended, LinesEnded}
 
 -- ---- what stands there is cut
 
-over_gap : (p : ℕ) (gap on : List ℕ) → All (λ b. b ≡ 32) gap → words_from p [] (gap ++ on) ≡ words_from (p + length gap) [] on
+over_gap : (p : ℕ) (gap on : List ℕ) → AllOf (λ b. b ≡ 32) gap → words_from p [] (gap ++ on) ≡ words_from (p + length gap) [] on
 over_gap p [] on h = let e : p ≡ p + 0 = omega arith in ap (λ k. words_from k [] on) e
 over_gap p (b ∷ gap) on h =
     let e : p + 1 + length gap ≡ p + length (b ∷ gap) = omega arith in
     cond-true (eqb b 32) _ _ (eq-eqb _ _ h.0) ∙ over_gap (p + 1) gap on h.1 ∙ ap (λ k. words_from k [] on) e
 
-over_word : (p : ℕ) (w v on : List ℕ) → All (λ b. b ≡ 32 → ⊥) v → words_from p w (v ++ on) ≡ words_from (p + length v) (w ++ v) on
+over_word : (p : ℕ) (w v on : List ℕ) → AllOf (λ b. b ≡ 32 → ⊥) v → words_from p w (v ++ on) ≡ words_from (p + length v) (w ++ v) on
 over_word p w [] on h = let e : p ≡ p + 0 = omega arith in let back = sym (append-nil w) in λ i. words_from (e i) (back i) on
 over_word p w (b ∷ v) on h =
     let e : p + 1 + length v ≡ p + length (b ∷ v) = omega arith in
@@ -29,7 +29,7 @@ ended_word : (p q : ℕ) (w : List ℕ) (cs : List Cut) → 1 ≤ length w → p
 ended_word p q [] cs some e = absurd (omega arith)
 ended_word p q (b ∷ w) cs some e = let k : p - length (b ∷ w) ≡ q = omega arith in ap (λ j. (j, b ∷ w) ∷ cs) k
 
-no_words : (p : ℕ) (bs : List ℕ) → All (λ b. b ≡ 32) bs → words_from p [] bs ≡ []
+no_words : (p : ℕ) (bs : List ℕ) → AllOf (λ b. b ≡ 32) bs → words_from p [] bs ≡ []
 no_words p bs h = ap (words_from p []) (sym (append-nil bs)) ∙ over_gap p bs [] h
 
 cut_from : (p : ℕ) (bs : List ℕ) (cs : List Cut) → Parted p bs cs → words_from p [] bs ≡ cs
@@ -57,7 +57,7 @@ one_gap_more p b bs (c ∷ cs) e h = let at = h.4 in (b ∷ h.0, h.1, ap (λ l. 
 -- the word w, which ends at place p, goes on by v
 abbrev GoesOn : ℕ → List ℕ → List ℕ → Type 0
 GoesOn p w bs =
-    (v : List ℕ) × (on : List ℕ) × (cs : List Cut) × (bs ≡ v ++ on) × All (λ b. b ≡ 32 → ⊥) v × Apart on × Parted (p + length v) on cs × (words_from p w bs ≡ (p - length w, w ++ v) ∷ cs)
+    (v : List ℕ) × (on : List ℕ) × (cs : List Cut) × (bs ≡ v ++ on) × AllOf (λ b. b ≡ 32 → ⊥) v × Apart on × Parted (p + length v) on cs × (words_from p w bs ≡ (p - length w, w ++ v) ∷ cs)
 
 ended_at : (p : ℕ) (w : List ℕ) (cs : List Cut) → 1 ≤ length w → ended p w cs ≡ (p - length w, w) ∷ cs
 ended_at p [] cs some = absurd (omega arith)
@@ -120,7 +120,7 @@ words_parted line cs = (cut_from 0 line cs, λ e. subst (Parted 0 line) e ((stan
 
 -- ---- lines
 
-over_line : (w v on : List ℕ) → All (λ b. b ≡ 10 → ⊥) v → lines_from w (v ++ on) ≡ lines_from (w ++ v) on
+over_line : (w v on : List ℕ) → AllOf (λ b. b ≡ 10 → ⊥) v → lines_from w (v ++ on) ≡ lines_from (w ++ v) on
 over_line w [] on h = ap (λ l. lines_from l on) (sym (append-nil w))
 over_line w (b ∷ v) on h = cond-false (eqb b 10) _ _ (ne_eqb _ _ h.0) ∙ over_line (w ++ b ∷ []) v on h.1 ∙ ap (λ l. lines_from l on) (append_assoc w (b ∷ []) v)
 
@@ -139,7 +139,7 @@ lines_from_lem bs (l ∷ ls) h =
 -- the line w goes on by v
 abbrev LineOn : List ℕ → List ℕ → Type 0
 LineOn w bs =
-    (v : List ℕ) × (ls : List (List ℕ)) × All (λ b. b ≡ 10 → ⊥) v × (lines_from w bs ≡ (w ++ v) ∷ ls)
+    (v : List ℕ) × (ls : List (List ℕ)) × AllOf (λ b. b ≡ 10 → ⊥) v × (lines_from w bs ≡ (w ++ v) ∷ ls)
     × (((on : List ℕ) × (bs ≡ v ++ 10 ∷ on) × Ended on ls) ⊎ ((bs ≡ v) × (ls ≡ [])))
 
 abbrev LineAt : List ℕ → List ℕ → Type 0
@@ -149,7 +149,7 @@ whole_text : (bs : List ℕ) → LineAt [] bs → Ended bs (lines_from [] bs)
 whole_text bs (inl h) = subst (λ l. Ended l (lines_from [] l)) (sym h.1) refl
 whole_text bs (inr g) = subst (Ended bs) (sym g.3) (g.2, by_end g.0 g.1 g.2 g.3 g.4)
   where
-    by_end : (v : List ℕ) (ls : List (List ℕ)) → All (λ b. b ≡ 10 → ⊥) v → lines_from [] bs ≡ v ∷ ls → ((on : List ℕ) × (bs ≡ v ++ 10 ∷ on) × Ended on ls) ⊎ ((bs ≡ v) × (ls ≡ [])) → ((on : List ℕ) × (bs ≡ v ++ 10 ∷ on) × Ended on ls) ⊎ ((bs ≡ v) × (1 ≤ length v) × (ls ≡ []))
+    by_end : (v : List ℕ) (ls : List (List ℕ)) → AllOf (λ b. b ≡ 10 → ⊥) v → lines_from [] bs ≡ v ∷ ls → ((on : List ℕ) × (bs ≡ v ++ 10 ∷ on) × Ended on ls) ⊎ ((bs ≡ v) × (ls ≡ [])) → ((on : List ℕ) × (bs ≡ v ++ 10 ∷ on) × Ended on ls) ⊎ ((bs ≡ v) × (1 ≤ length v) × (ls ≡ []))
     by_end v ls a e (inl h) = inl h
     by_end [] ls a e (inr h) = let none : lines_from [] bs ≡ [] = ap (lines_from []) h.0 in let n : length (lines_from [] bs) ≡ 0 = ap length none in let m = ap length e in absurd (omega arith)
     by_end (b ∷ v) ls a e (inr h) = inr (h.0, omega arith, h.1)

@@ -1,6 +1,6 @@
 -- Each turn is a step of `Sweeping`; the rows swept are the canonical list of the day sets.
 use Rattle.std.proofs.Common.{◌≡◌, ℕ, ◌+◌, ◌<◌, ◌≤◌, Bool, true, false, ◌⊎◌, List, map, get_or, take, ℤ, Decides, sym, subst, inl, inr, arith}
-use Rattle.std.specs.List.{AllByRecursion as All}
+use Rattle.std.specs.List.{AllByRecursion as AllOf}
 use Rattle.std.proofs.lemmas.Slice.Eq.{slice_eq-Decides}
 use Rattle.std.proofs.lemmas.Bool.{both_ways}
 use Rattle.relation.specs.Rows.{on, Lists}
@@ -32,6 +32,6 @@ returns c =
     record {
       few = omega arith;
       lists = subst (λ l. Lists l (on (map bare (take c.args.n c.args.rows.now)))) (sym is) (swept_lists c.args.n c.args.rows.now (omega arith) (omega arith) c.requires.sorted c.requires.periods);
-      drawn = at_row (Drawn c.args.n c.args.rows.now) (c.loop-i.last + 1) c.loop-i.rows (omega arith) (subst (All (Drawn c.args.n c.args.rows.now)) (sym is) (swept_drawn c.args.n c.args.rows.now (omega arith) (omega arith)));
+      drawn = at_row (Drawn c.args.n c.args.rows.now) (c.loop-i.last + 1) c.loop-i.rows (omega arith) (subst (AllOf (Drawn c.args.n c.args.rows.now)) (sym is) (swept_drawn c.args.n c.args.rows.now (omega arith) (omega arith)));
       rest = λ k l. c.loop-i.invariant.rest k (omega arith);
     }

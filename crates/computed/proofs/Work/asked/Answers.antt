@@ -12,15 +12,15 @@ returns c =
     let end = c.args.end in
     let rows = c.args.self.now.rows in
     let index = c.args.self.now.index in
-    let new = c.in-ok-watches.ensures in
-    let win = c.in-ok-absent.ensures in
-    let w = c.in-ok-absent.absent in
+    let new = c.in_ok-watches.ensures in
+    let win = c.in_ok-absent.ensures in
+    let w = c.in_ok-absent.absent in
     let m = watches c.args.count in
     let v = windowed m first end in
-    let a_is : watches c.in-ok-watches.watches.count ≡ m = ap watches new.1.0 in
+    let a_is : watches c.in_ok-watches.watches.count ≡ m = ap watches new.1.0 in
     let b = windowed (watches w.source.count) w.first w.end in
     let b_is : b ≡ v = cc (win.1.0, win.1.1, win.1.2) in
-    let asked : Collects (collected (no_uncovered m v m 10 100) (uncovered_plan m v m 10 100) rows index) (uncovered m v m 10 100) rows index c.list-uncovered.result c.list-uncovered.new.rows c.list-uncovered.new.index =
-    subst (λ x. Collects (collected (no_uncovered m x m 10 100) (uncovered_plan m x m 10 100) rows index) (uncovered m x m 10 100) rows index c.list-uncovered.result c.list-uncovered.new.rows c.list-uncovered.new.index) b_is
-    (subst (λ x. Collects (collected (no_uncovered x b x 10 100) (uncovered_plan x b x 10 100) rows index) (uncovered x b x 10 100) rows index c.list-uncovered.result c.list-uncovered.new.rows c.list-uncovered.new.index) a_is c.list-uncovered.ensures) in
+    let asked : Collects (collected (no_uncovered m v m 10 100) (uncovered_plan m v m 10 100) rows index) (uncovered m v m 10 100) rows index c.list_uncovered.result c.list_uncovered.new.rows c.list_uncovered.new.index =
+    subst (λ x. Collects (collected (no_uncovered m x m 10 100) (uncovered_plan m x m 10 100) rows index) (uncovered m x m 10 100) rows index c.list_uncovered.result c.list_uncovered.new.rows c.list_uncovered.new.index) b_is
+    (subst (λ x. Collects (collected (no_uncovered x b x 10 100) (uncovered_plan x b x 10 100) rows index) (uncovered x b x 10 100) rows index c.list_uncovered.result c.list_uncovered.new.rows c.list_uncovered.new.index) a_is c.list_uncovered.ensures) in
     past (no_watches c.args.count) _ _ rows index _ _ _ new.0 (past (no_window first end) _ _ rows index _ _ _ win.0 asked)

@@ -12,15 +12,15 @@ returns c =
     let end = c.args.end in
     let rows = c.args.self.now.rows in
     let index = c.args.self.now.index in
-    let new = c.in-ok-watches.ensures in
-    let win = c.in-ok-absent.ensures in
-    let w = c.in-ok-absent.absent in
+    let new = c.in_ok-watches.ensures in
+    let win = c.in_ok-absent.ensures in
+    let w = c.in_ok-absent.absent in
     let m = watches c.args.count in
     let v = windowed m first end in
-    let a_is : watches c.in-ok-watches.watches.count ≡ m = ap watches new.1.0 in
+    let a_is : watches c.in_ok-watches.watches.count ≡ m = ap watches new.1.0 in
     let b = windowed (watches w.source.count) w.first w.end in
     let b_is : b ≡ v = cc (win.1.0, win.1.1, win.1.2) in
-    let asked : Collects (collected (no_bare m v) (bare_plan m v) rows index) (bare m v) rows index c.list-bare.result c.list-bare.new.rows c.list-bare.new.index =
-    subst (λ x. Collects (collected (no_bare m x) (bare_plan m x) rows index) (bare m x) rows index c.list-bare.result c.list-bare.new.rows c.list-bare.new.index) b_is
-    (subst (λ x. Collects (collected (no_bare x b) (bare_plan x b) rows index) (bare x b) rows index c.list-bare.result c.list-bare.new.rows c.list-bare.new.index) a_is c.list-bare.ensures) in
+    let asked : Collects (collected (no_bare m v) (bare_plan m v) rows index) (bare m v) rows index c.list_bare.result c.list_bare.new.rows c.list_bare.new.index =
+    subst (λ x. Collects (collected (no_bare m x) (bare_plan m x) rows index) (bare m x) rows index c.list_bare.result c.list_bare.new.rows c.list_bare.new.index) b_is
+    (subst (λ x. Collects (collected (no_bare x b) (bare_plan x b) rows index) (bare x b) rows index c.list_bare.result c.list_bare.new.rows c.list_bare.new.index) a_is c.list_bare.ensures) in
     past (no_watches c.args.count) _ _ rows index _ _ _ new.0 (past (no_window first end) _ _ rows index _ _ _ win.0 asked)

@@ -5,11 +5,11 @@ use Rattle.cuts.proofs.amounts.add_up.Goals as goal
 pub loop-i-init : goal.loop-i-init
 loop-i-init c = adding_none _
 
-pub overflow-add-rows : goal.overflow-add-rows
-overflow-add-rows c = rows_fit _ _ _ _ _ c.loop-i.invariant c.loop-i.auto.cuts (omega arith) c.requires.few c.requires.small
+pub overflow_add-rows : goal.overflow_add-rows
+overflow_add-rows c = rows_fit _ _ _ _ _ c.loop-i.invariant c.loop-i.auto.cuts (omega arith) c.requires.few c.requires.small
 
-pub overflow-add-amount : goal.overflow-add-amount
-overflow-add-amount c = amount_fits _ _ _ _ _ c.loop-i.invariant c.loop-i.auto.cuts (omega arith) c.requires.few c.requires.small
+pub overflow_add-amount : goal.overflow_add-amount
+overflow_add-amount c = amount_fits _ _ _ _ _ c.loop-i.invariant c.loop-i.auto.cuts (omega arith) c.requires.few c.requires.small
 
 pub loop-i-preserved : goal.loop-i-preserved
 loop-i-preserved c = adding_turn _ _ _ _ _ c.loop-i.invariant c.loop-i.auto.cuts c.loop-i-test.true c.requires.few c.requires.small _ c.cut.ensures

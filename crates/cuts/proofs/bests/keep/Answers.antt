@@ -8,7 +8,7 @@ pub loop-i-init : goal.loop-i-init
 loop-i-init c = keeping_none _ _ _ _ _ c.position-i.ensures.within c.position-i.ensures.before c.position-i.ensures.after
 
 pub loop-i-preserved : goal.loop-i-preserved
-loop-i-preserved c = keeping_more _ _ _ _ _ _ c.loop-i.invariant c.loop-i.auto.cuts c.loop-i-test.true _ c.keep-at.ensures c.if-cuts-i.false
+loop-i-preserved c = keeping_more _ _ _ _ _ _ c.loop-i.invariant c.loop-i.auto.cuts c.loop-i-test.true _ c.keep_at.ensures c.if-cuts-i.false
 
 pub returns-after-loop-i : goal.returns-after-loop-i
 returns-after-loop-i c =

@@ -6,8 +6,8 @@ use Rattle.cuts.proofs.groups.cut_days.Goals as goal
 pub sort-requires : goal.sort-requires
 sort-requires c = record { room = omega (arith, length-between c.write.new.rows c.args.base (c.args.base + 2 * (c.args.upto - c.args.from)) (omega arith)); few = omega arith }
 
-pub measure-cuts-requires : goal.measure-cuts-requires
-measure-cuts-requires c =
+pub measure_cuts-requires : goal.measure_cuts-requires
+measure_cuts-requires c =
     let few = cuts_few c.args.measure c.args.rows.now c.args.from c.args.upto c.args.base (omega arith) (omega arith) (omega arith) _ _ _ c.write.ensures c.sort.ensures refl in
     record {
       order = (omega arith, (omega arith, (omega arith, omega arith)));
@@ -18,4 +18,4 @@ measure-cuts-requires c =
     }
 
 pub returns : goal.returns
-returns c = cut_is c.args.measure c.args.rows.now c.args.from c.args.upto c.args.base (omega arith) (omega arith) (omega arith) _ _ _ c.write.ensures c.sort.ensures refl _ c.measure-cuts.ensures
+returns c = cut_is c.args.measure c.args.rows.now c.args.from c.args.upto c.args.base (omega arith) (omega arith) (omega arith) _ _ _ c.write.ensures c.sort.ensures refl _ c.measure_cuts.ensures

@@ -14,5 +14,5 @@ added m ws cs (inr e) = ap (λ n. measured n ws cs) (sym e.1)
 
 pub returns-in-Count : goal.returns-in-Count
 returns-in-Count c =
-    put_over c.args.rows.now c.args.base c.args.end (omega arith) (omega arith) c.add-up.new.cuts
-    ∙ ap (over c.args.rows.now c.args.base c.args.end) (c.add-up.ensures ∙ added c.args.measure _ _ c.in-Count.is)
+    put_over c.args.rows.now c.args.base c.args.end (omega arith) (omega arith) c.add_up.new.cuts
+    ∙ ap (over c.args.rows.now c.args.base c.args.end) (c.add_up.ensures ∙ added c.args.measure _ _ c.in-Count.is)

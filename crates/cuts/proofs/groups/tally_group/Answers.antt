@@ -1,22 +1,8 @@
-use Rattle.std.proofs.Common.{refl, arith}
+use Rattle.std.proofs.Common.{◌-◌, ◌+◌, get_or, arith}
 use Rattle.collect.specs.Areas.{no_row}
-use Rattle.cuts.specs.Amounts.{Within}
-use Rattle.cuts.proofs.Parts.{all_part}
-use Rattle.cuts.proofs.Tallying.{tallied}
+use Rattle.cuts.proofs.Widths.{gives_first}
 use Rattle.cuts.proofs.groups.tally_group.Goals as goal
 
-pub cut-days-requires : goal.cut-days-requires
-cut-days-requires c = record {
-  order = (omega arith, omega arith);
-  room = omega arith;
-  nodes-room = omega arith;
-  few-nodes = omega arith;
-  few_rows = omega arith;
-  fits = c.requires.fits;
-  within = all_part (Within c.args.measure) c.args.rows.now no_row c.args.from c.args.upto c.requires.within (omega arith);
-}
-
-pub returns : goal.returns
-returns c =
-    let t = tallied c.args.measure c.args.rows.now c.args.from c.args.upto c.args.base c.args.by.now (omega arith) (omega arith) (omega arith) c.requires.periods _ _ _ _ c.cut-days.ensures refl c.emit.auto.cuts c.emit.ensures.few c.emit.ensures.stretches in
-    record { few = t.few; rest = t.rest; periods = t.periods; rising = t.rising; rows = t.gives; all = t.all }
+pub returns-clause-rows : goal.returns-clause-rows
+returns-clause-rows c j d lt h =
+    gives_first c.args.measure c.args.width (c.args.width - 0) c.args.rows.now c.args.from c.args.upto d (get_or c.tally_group_by.new.rows (c.args.base + j) no_row) (omega arith) (omega arith) (c.tally_group_by.ensures.rows j d lt h)

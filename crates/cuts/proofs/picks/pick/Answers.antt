@@ -6,8 +6,8 @@ use Rattle.cuts.proofs.picks.pick.Goals as goal
 
 pub loop-i-preserved : goal.loop-i-preserved
 loop-i-preserved c =
-    let fits : SFits w64 c.value-of.result = search rules in
-    picked_more most_columns c.args.by.now c.args.values.now c.loop-i.i _ _ (omega arith) (omega arith) c.loop-i.invariant (to_z-of_z w64 c.value-of.result fits ∙ c.value-of.ensures)
+    let fits : SFits w64 c.value_of.result = search rules in
+    picked_more most_columns c.args.by.now c.args.values.now c.loop-i.i _ _ (omega arith) (omega arith) c.loop-i.invariant (to_z-of_z w64 c.value_of.result fits ∙ c.value_of.ensures)
 
 pub returns : goal.returns
 returns c = c.loop-i.invariant ∙ picked_all most_columns c.args.by.now c.args.values.now c.loop-i.i (omega arith)

@@ -10,14 +10,14 @@ use Rattle.grammar.specs.Grammar.{worded, line_of}
 use Rattle.grammar.proofs.Reading.{reads}
 use Rattle.grammar.proofs.forms.read_line.Goals as goal
 
-pub returns-then-is-blank : goal.returns-then-is-blank
-returns-then-is-blank c =
+pub returns-then-is_blank : goal.returns-then-is_blank
+returns-then-is_blank c =
     let ws = texts (words c.args.line.now) in
-    let e : Some skip ≡ line_of ws = sym (cond-true (is_blank ws) (Some skip) (worded ws) (sym c.if-is-blank.ensures)) in
+    let e : Some skip ≡ line_of ws = sym (cond-true (is_blank ws) (Some skip) (worded ws) (sym c.if-is_blank.ensures)) in
     record { value = e; reads = reads ws (Some skip) e }
 
-pub returns-else-is-blank : goal.returns-else-is-blank
-returns-else-is-blank c =
+pub returns-else-is_blank : goal.returns-else-is_blank
+returns-else-is_blank c =
     let ws = texts (words c.args.line.now) in
-    let e : option_map says c.read-words.result ≡ line_of ws = c.read-words.ensures ∙ sym (cond-false (is_blank ws) (Some skip) (worded ws) (sym c.if-is-blank.ensures)) in
-    record { value = e; reads = reads ws (option_map says c.read-words.result) e }
+    let e : option_map says c.read_words.result ≡ line_of ws = c.read_words.ensures ∙ sym (cond-false (is_blank ws) (Some skip) (worded ws) (sym c.if-is_blank.ensures)) in
+    record { value = e; reads = reads ws (option_map says c.read_words.result) e }

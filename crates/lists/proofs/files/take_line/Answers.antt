@@ -9,8 +9,8 @@ use Rattle.lists.specs.ListFiles.{read}
 use Rattle.lists.proofs.Gathering.{take_full}
 use Rattle.lists.proofs.files.take_line.Goals as goal
 
-pub returns-then-len-ge-MOST-WORK : goal.returns-then-len-ge-MOST-WORK
-returns-then-len-ge-MOST-WORK c =
+pub returns-then-len-ge-MOST_WORK : goal.returns-then-len-ge-MOST_WORK
+returns-then-len-ge-MOST_WORK c =
     let long : length (vec_items c.args.rows.now) ≡ most_work = omega (arith, c.args.rows.now.ok.0) in
     record { few = c.requires; rows = sym (take_full most_work (vec_items c.args.rows.now) (read (row_line (listed c.args.kinds) (texts (words c.args.line.now)))) long) }
 
@@ -22,10 +22,10 @@ returns-in-Err c =
       rows = sym (ap (λ rs. take most_work (vec_items c.args.rows.now ++ rs)) none ∙ ap (take most_work) (append-nil (vec_items c.args.rows.now)) ∙ take_all most_work (vec_items c.args.rows.now) c.requires);
     }
 
-pub returns-in-ok-push : goal.returns-in-ok-push
-returns-in-ok-push c =
+pub returns-in_ok-push-in-Ok : goal.returns-in_ok-push-in-Ok
+returns-in_ok-push-in-Ok c =
     let one = ap read (sym c.in-Ok.ensures.value) in
-    let items = c.in-ok-push.ensures.items in
+    let items = c.in_ok-push-in-Ok.ensures.items in
     let short : length (vec_items c.args.rows.now) ≤ most_work = c.requires in
     let few : length (vec_items c.push.new.self) ≤ most_work = omega (arith, ap length items, length-append (vec_items c.args.rows.now) (c.in-Ok.row ∷ []), c.args.rows.now.ok.0) in
     record {

@@ -1,4 +1,4 @@
-use Rattle.std.proofs.Common.{◌≡◌, ap, ◌∙◌}
+use Rattle.std.proofs.Common.{ap, ◌∙◌}
 use Rattle.relation.specs.declared.refusals.Reason.TheVariants.{Form}
 use Rattle.words.specs.Rest.{texts}
 use Rattle.words.specs.Words.{words}
@@ -13,5 +13,5 @@ returns-in-None c =
 
 pub returns-in-Some : goal.returns-in-Some
 returns-in-Some c =
-    let e = c.header-of.ensures ∙ ap (λ o. or_else Form o header_of) c.in-Some.ensures in
+    let e = c.header_of.ensures ∙ ap (λ o. or_else Form o header_of) c.in-Some.ensures in
     record { value = e; reads = header_reads (texts (words c.args.line.now)) _ e }

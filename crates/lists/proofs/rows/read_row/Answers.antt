@@ -26,5 +26,5 @@ pub returns-in-Some : goal.returns-in-Some
 returns-in-Some c =
     let ks = listed c.args.kinds in
     let ws = texts (words c.args.line.now) in
-    let e = whole ks ws (Some (says_row c.in-Some.parts)) c.row-of.result c.row-of.ensures (c.in-Some.ensures ∙ ap (λ l. take_row (texts l)) c.new-words.ensures) in
-    record { value = e; reads = row_reads ks ws c.row-of.result e }
+    let e = whole ks ws (Some (says_row c.in-Some.parts)) c.row_of.result c.row_of.ensures (c.in-Some.ensures ∙ ap (λ l. take_row (texts l)) c.new-words.ensures) in
+    record { value = e; reads = row_reads ks ws c.row_of.result e }

@@ -11,18 +11,18 @@ use Rattle.plans.specs.Questions.{no_out, no_bare, no_valued, no_uncovered, out_
 use Rattle.plans.proofs.Answered.{made_project, made_except, made_join, made_window, no_join_lem, plain_first, answered_over}
 use Rattle.plans.proofs.questions.ask.Goals as goal
 
-pub returns-in-err-joined : goal.returns-in-err-joined
-returns-in-err-joined g c =
+pub returns-in_err-joined : goal.returns-in_err-joined
+returns-in_err-joined g c =
     let h = g.H.Source.meaning c.args.hires in
     let k = g.C.Source.meaning c.args.covers in
-    let out = c.in-ok-instruments.instruments in
-    let cov = c.in-ok-covered.covered in
-    let f = c.in-ok-instruments.ensures in
-    let e = c.in-ok-covered.ensures in
-    let x = c.in-ok-left.ensures in
+    let out = c.in_ok-instruments.instruments in
+    let cov = c.in_ok-covered.covered in
+    let f = c.in_ok-instruments.ensures in
+    let e = c.in_ok-covered.ensures in
+    let x = c.in_ok-left.ensures in
     let a = projected (g.H.Source.meaning out.source) (chosen out.columns) in
     let b = projected (g.C.Source.meaning cov.source) (chosen cov.columns) in
-    let left = c.in-ok-left.left in
+    let left = c.in_ok-left.left in
     let m = excepted (projected (g.H.Source.meaning left.left.source) (chosen left.left.columns)) (projected (g.C.Source.meaning left.right.source) (chosen left.right.columns)) in
     let is : m ≡ excepted a b = cc (x.1.0, x.1.1) in
     let made = made_except (no_out h) (no_out k) (out_plan h) (out_plan k) a b m
@@ -30,22 +30,22 @@ returns-in-err-joined g c =
     (made_project instrument k b (g.C.Source.sound c.args.covers c.requires.covers) e.0 (ap₂ (λ y cs. projected (g.C.Source.meaning y) cs) e.1.0 e.1.1))
     x.0 is in
     let v = g.V.Source.meaning c.args.values in
-    let no_join_here = no_join_lem by_instrument (no_bare h k) (bare_plan h k) m v c.in-err-joined.field-0.0 made c.in-err-joined.ensures in
-    let no_plan : plain? (no_uncovered h k v c.args.first c.args.end) ≡ Some c.in-err-joined.field-0.0 = plain_first (no_valued h k v) _ _ no_join_here in
+    let no_join_here = no_join_lem by_instrument (no_bare h k) (bare_plan h k) m v c.in_err-joined.field-0.0 made c.in_err-joined.ensures in
+    let no_plan : plain? (no_uncovered h k v c.args.first c.args.end) ≡ Some c.in_err-joined.field-0.0 = plain_first (no_valued h k v) _ _ no_join_here in
     search rules
 
 pub returns : goal.returns
 returns g c =
     let h = g.H.Source.meaning c.args.hires in
     let k = g.C.Source.meaning c.args.covers in
-    let out = c.in-ok-instruments.instruments in
-    let cov = c.in-ok-covered.covered in
-    let f = c.in-ok-instruments.ensures in
-    let e = c.in-ok-covered.ensures in
-    let x = c.in-ok-left.ensures in
+    let out = c.in_ok-instruments.instruments in
+    let cov = c.in_ok-covered.covered in
+    let f = c.in_ok-instruments.ensures in
+    let e = c.in_ok-covered.ensures in
+    let x = c.in_ok-left.ensures in
     let a = projected (g.H.Source.meaning out.source) (chosen out.columns) in
     let b = projected (g.C.Source.meaning cov.source) (chosen cov.columns) in
-    let left = c.in-ok-left.left in
+    let left = c.in_ok-left.left in
     let m = excepted (projected (g.H.Source.meaning left.left.source) (chosen left.left.columns)) (projected (g.C.Source.meaning left.right.source) (chosen left.right.columns)) in
     let is : m ≡ excepted a b = cc (x.1.0, x.1.1) in
     let made = made_except (no_out h) (no_out k) (out_plan h) (out_plan k) a b m
@@ -53,8 +53,8 @@ returns g c =
     (made_project instrument k b (g.C.Source.sound c.args.covers c.requires.covers) e.0 (ap₂ (λ y cs. projected (g.C.Source.meaning y) cs) e.1.0 e.1.1))
     x.0 is in
     let v = g.V.Source.meaning c.args.values in
-    let j = c.in-ok-joined.ensures in
-    let s = c.in-ok-joined.joined in
+    let j = c.in_ok-joined.ensures in
+    let s = c.in_ok-joined.joined in
     let ps : pairs_of (items s.pairs) ≡ by_instrument = ap pairs_of j.1.2 in
     let n = joined_of (pairs_of (items s.pairs)) (excepted (projected (g.H.Source.meaning s.left.left.source) (chosen s.left.left.columns)) (projected (g.C.Source.meaning s.left.right.source) (chosen s.left.right.columns))) (g.V.Source.meaning s.right) in
     let same : n ≡ joined_of by_instrument m v = cc (ps, j.1.0, j.1.1) in

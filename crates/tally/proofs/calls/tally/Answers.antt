@@ -10,23 +10,23 @@ returns-then-not-fits g c =
     let m = g.S.Source.meaning c.args.source.now in
     inl (misfit m c.args.what c.args.by.now c.args.rows.now c.args.index.now (sym c.if-not-fits.ensures) ∙ ap (λ (e : Refusal). Some e) (sym c.plain.ensures), refl, refl)
 
-pub tally-within-requires : goal.tally-within-requires
-tally-within-requires g c =
-    let wide = part_size c.args.rows.now _ c.min-rows-end.result c.min-rows-end.ensures refl in
-    let long = part_size c.args.index.now _ c.min-index-end.result c.min-index-end.ensures refl in
+pub tally_within-requires : goal.tally_within-requires
+tally_within-requires g c =
+    let wide = part_size c.args.rows.now _ c.min-rows_end.result c.min-rows_end.ensures refl in
+    let long = part_size c.args.index.now _ c.min-index_end.result c.min-index_end.ensures refl in
     record {
       source = c.requires;
       fits = sym c.if-not-fits.ensures;
-      rows-room = omega (arith, wide);
-      index-room = omega (arith, long);
+      rows_room = omega (arith, wide);
+      index_room = omega (arith, long);
       few_rows = omega (arith, wide);
-      few-index = omega (arith, long);
+      few_index = omega (arith, long);
     }
 
-pub returns-then-count-filled-limit : goal.returns-then-count-filled-limit
-returns-then-count-filled-limit g c =
+pub returns-then-count_filled-limit : goal.returns-then-count_filled-limit
+returns-then-count_filled-limit g c =
     let m = g.S.Source.meaning c.args.source.now in
-    inl (short m c.args.what c.args.by.now c.args.rows.now c.args.index.now (sym c.if-not-fits.ensures) (λ p q. omega arith) ∙ ap (λ (e : Refusal). Some e) (sym c.plain-then-count-filled-limit.ensures), refl, refl)
+    inl (short m c.args.what c.args.by.now c.args.rows.now c.args.index.now (sym c.if-not-fits.ensures) (λ p q. omega arith) ∙ ap (λ (e : Refusal). Some e) (sym c.plain-then-count_filled-limit.ensures), refl, refl)
 
 pub returns : goal.returns
 returns g c =
@@ -35,5 +35,5 @@ returns g c =
     let index = c.args.index.now in
     let wide : 3 * length (rows_of m) ≤ counted rows = omega arith in
     let long : 3 * length (rows_of m) ≤ counted index = omega arith in
-    tallied_whole m c.args.what c.args.by.now rows c.tally-within.new.rows index c.tally-within.new.index c.min-rows-end.result c.min-index-end.result c.min-rows-end.ensures c.min-index-end.ensures c.tally-within.auto.rows c.tally-within.auto.index
-    (allowed m c.args.what c.args.by.now rows index (sym c.if-not-fits.ensures) wide long) c.tally-within.result c.tally-within.ensures
+    tallied_whole m c.args.what c.args.by.now rows c.tally_within.new.rows index c.tally_within.new.index c.min-rows_end.result c.min-index_end.result c.min-rows_end.ensures c.min-index_end.ensures c.tally_within.auto.rows c.tally_within.auto.index
+    (allowed m c.args.what c.args.by.now rows index (sym c.if-not-fits.ensures) wide long) c.tally_within.result c.tally_within.ensures

@@ -10,12 +10,12 @@ use Rattle.tally.proofs.Collected.{few_columns, columns, narrow, within, few_lis
 use Rattle.tally.proofs.Whole.{collectable, not_refused}
 use Rattle.tally.proofs.calls.tally_within.Goals as goal
 
-pub tally-list-requires : goal.tally-list-requires
-tally-list-requires g c =
+pub tally_list-requires : goal.tally_list-requires
+tally_list-requires g c =
     let m = g.S.Source.meaning c.args.source.now in
     let s = g.S.Source.sound c.args.source.now c.requires.source in
-    let n = c.in-ok-n.n in
-    let left = c.in-ok-n.ensures.1 in
+    let n = c.in_ok-n.n in
+    let left = c.in_ok-n.ensures.1 in
     let xs = left.part.list in
     let lists = left.part.lists in
     let count = left.part.count in
@@ -23,31 +23,31 @@ tally-list-requires g c =
     let few : n ≤ counted c.args.rows.now = omega arith in
     let at = left_at (day_set m) c.args.rows.now c.collect.new.rows c.args.index.now c.collect.new.index n left few in
     record {
-      rows-room = omega arith;
-      index-room = omega arith;
-      few-index = omega arith;
+      rows_room = omega arith;
+      index_room = omega arith;
+      few_index = omega arith;
       few_columns = few_columns m s c.args.what c.args.by.now c.requires.fits;
       narrow = narrow m s c.args.what c.args.by.now c.requires.fits;
       periods = λ i lt. subst (λ w. Period (bare w)) (sym (at i lt)) (period_listed m s xs lists i (omega arith));
       within = λ i lt. subst (Within (measure_of c.args.what)) (sym (at i lt)) (within m s c.args.what c.args.by.now c.requires.fits _ (fits_listed m s xs lists i (omega arith)));
     }
 
-pub returns-in-err-n : goal.returns-in-err-n
-returns-in-err-n g c =
+pub returns-in_err-n : goal.returns-in_err-n
+returns-in_err-n g c =
     let m = g.S.Source.meaning c.args.source.now in
-    absurd (not_refused _ _ (collectable m c.args.rows.now c.args.index.now (omega arith) (omega arith)) c.in-err-n.ensures.0)
+    absurd (not_refused _ _ (collectable m c.args.rows.now c.args.index.now (omega arith) (omega arith)) c.in_err-n.ensures.0)
 
 pub returns : goal.returns
 returns g c =
     let m = g.S.Source.meaning c.args.source.now in
     let s = g.S.Source.sound c.args.source.now c.requires.source in
-    let n = c.in-ok-n.n in
-    let left = c.in-ok-n.ensures.1 in
+    let n = c.in_ok-n.n in
+    let left = c.in_ok-n.ensures.1 in
     let xs = left.part.list in
     let count = left.part.count in
     let fewer = few_listed m s xs left.part.lists in
     let few : n ≤ counted c.args.rows.now = omega arith in
     let front = left_front (day_set m) c.args.rows.now c.collect.new.rows c.args.index.now c.collect.new.index n left few in
-    let e = c.tally-list.ensures xs (day_set m) front left.part.lists (columns m s c.args.what c.args.by.now c.requires.fits) in
-    subst (λ k. TalliesSets c.args.what c.args.by.now (day_set m) k (length c.args.index.now) c.tally-list.result c.tally-list.new.rows c.tally-list.new.index) c.collect.auto.rows
-    (subst (λ k. TalliesSets c.args.what c.args.by.now (day_set m) (length c.collect.new.rows) k c.tally-list.result c.tally-list.new.rows c.tally-list.new.index) c.collect.auto.index e)
+    let e = c.tally_list.ensures xs (day_set m) front left.part.lists (columns m s c.args.what c.args.by.now c.requires.fits) in
+    subst (λ k. TalliesSets c.args.what c.args.by.now (day_set m) k (length c.args.index.now) c.tally_list.result c.tally_list.new.rows c.tally_list.new.index) c.collect.auto.rows
+    (subst (λ k. TalliesSets c.args.what c.args.by.now (day_set m) (length c.collect.new.rows) k c.tally_list.result c.tally_list.new.rows c.tally_list.new.index) c.collect.auto.index e)

@@ -10,19 +10,19 @@ use Rattle.tally.proofs.runs.tally_groups.Goals as goal
 pub loop-from-init : goal.loop-from-init
 loop-from-init c = (running_none _ _ _ _, refl)
 
-pub tally-group-end-requires : goal.tally-group-end-requires
-tally-group-end-requires c =
+pub tally_group_by-end-requires : goal.tally_group_by-end-requires
+tally_group_by-end-requires c =
     let n = c.args.n in
     let ws = take n c.args.rows.now in
     let a = c.loop-from.invariant.0 in
     let size : length ws ≡ n = length-take-le n c.args.rows.now (omega arith) in
-    let e = c.group-end-upto.ensures in
-    let upto_in : c.group-end-upto.result ≤ n = omega (arith, e.within, length-take (n - 0) c.loop-from.rows) in
+    let e = c.group_end-upto.ensures in
+    let upto_in : c.group_end-upto.result ≤ n = omega (arith, e.within, length-take (n - 0) c.loop-from.rows) in
     record {
       order = (e.some, omega (arith, a.behind));
       room = omega (arith, a.few);
-      nodes-room = omega arith;
-      few-nodes = omega arith;
+      nodes_room = omega arith;
+      few_nodes = omega arith;
       few_rows = omega arith;
       narrow = c.requires.narrow;
       fits = c.requires.fits;
@@ -30,10 +30,10 @@ tally-group-end-requires c =
       within = λ i low high. subst (Within c.args.measure) (sym (row_kept _ _ _ _ _ _ _ a size i (omega arith) ∙ get_or-take n c.args.rows.now i no_row (omega arith))) (c.requires.within i (omega arith));
     }
 
-pub overflow-add-end : goal.overflow-add-end
-overflow-add-end c =
-    let e = c.group-end-upto.ensures in
-    omega (arith, c.loop-from.invariant.0.few, c.loop-from.invariant.0.reached, c.tally-group-end.ensures.few, e.within, length-take (c.args.n - 0) c.loop-from.rows)
+pub overflow_add-end : goal.overflow_add-end
+overflow_add-end c =
+    let e = c.group_end-upto.ensures in
+    omega (arith, c.loop-from.invariant.0.few, c.loop-from.invariant.0.reached, c.tally_group_by-end.ensures.few, e.within, length-take (c.args.n - 0) c.loop-from.rows)
 
 pub loop-from-preserved : goal.loop-from-preserved
 loop-from-preserved c =
@@ -42,9 +42,9 @@ loop-from-preserved c =
     let a = c.loop-from.invariant.0 in
     let size : length ws ≡ n = length-take-le n c.args.rows.now (omega arith) in
     let whole : n - 0 ≡ n = omega arith in
-    let run = subst (λ t. Run c.args.by.now t c.loop-from.from c.group-end-upto.result) (ap (λ k. take k c.loop-from.rows) whole ∙ a.front) c.group-end-upto.ensures in
-    let e = c.tally-group-end.ensures in
-    (running_more c.args.measure c.args.by.now n ws c.loop-from.rows c.loop-from.from c.loop-from.end a size c.requires.together c.loop-from-test.true c.group-end-upto.result run c.tally-group-end.new.rows c.tally-group-end.result c.tally-group-end.auto.rows (omega (arith, a.few, run.within, size)) e.few e.rest e.periods e.rows e.all, c.tally-group-end.auto.rows ∙ c.loop-from.invariant.1)
+    let run = subst (λ t. Run c.args.by.now t c.loop-from.from c.group_end-upto.result) (ap (λ k. take k c.loop-from.rows) whole ∙ a.front) c.group_end-upto.ensures in
+    let e = c.tally_group_by-end.ensures in
+    (running_more c.args.measure c.args.by.now n ws c.loop-from.rows c.loop-from.from c.loop-from.end a size c.requires.together c.loop-from-test.true c.group_end-upto.result run c.tally_group_by-end.new.rows c.tally_group_by-end.result c.tally_group_by-end.auto.rows (omega (arith, a.few, run.within, size)) e.few e.rest e.periods e.rows e.all, c.tally_group_by-end.auto.rows ∙ c.loop-from.invariant.1)
 
 pub returns : goal.returns
 returns c =

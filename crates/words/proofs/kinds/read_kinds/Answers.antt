@@ -14,9 +14,9 @@ loop-i-preserved c =
     let w = c.args.word.now in
     let i = c.loop-i.i in
     let n : length (map kind_of (take i w)) ≡ i = length-map (take i w) kind_of ∙ length-take-le i w c.loop-i.auto.i-end in
-    ap (λ l. set l i c.kind-of.result) c.loop-i.invariant
-    ∙ push_firsts most_columns i (map kind_of (take i w)) Number c.kind-of.result n (omega arith)
-    ∙ ap (λ x. firsts most_columns (map kind_of (take i w) ++ x ∷ []) Number) c.kind-of.ensures
+    ap (λ l. set l i c.kind_of.result) c.loop-i.invariant
+    ∙ push_firsts most_columns i (map kind_of (take i w)) Number c.kind_of.result n (omega arith)
+    ∙ ap (λ x. firsts most_columns (map kind_of (take i w) ++ x ∷ []) Number) c.kind_of.ensures
     ∙ ap (λ l. firsts most_columns l Number) (sym (map_more kind_of w i 0 c.loop-i-test.true))
 
 pub returns : goal.returns
@@ -27,4 +27,4 @@ returns c =
     c.loop-i.invariant ∙ ap (λ l. firsts most_columns (map kind_of l) Number) (take_all c.loop-i.i w c.loop-i-test.false) in
     let same : ◌≡◌ {A = Kinds} (record { count = length w; at = c.loop-i.at }) (kept (map kind_of w)) = λ i. record { count = count i; at = at i } in
     ap (λ k. Some k) same
-    ∙ sym (cond-true (is_kinds w && leb (length w) most_columns) _ _ (and_from _ _ (sym c.if-not-is-kinds.ensures) (le-leb _ _ c.if-word-gt-MOST-COLUMNS.false)))
+    ∙ sym (cond-true (is_kinds w && leb (length w) most_columns) _ _ (and_from _ _ (sym c.if-not-is_kinds.ensures) (le-leb _ _ c.if-word-gt-MOST_COLUMNS.false)))

@@ -3,11 +3,11 @@ use Rattle.words.specs.Name.{name_byte}
 use Rattle.relation.proofs.Every.{every_more, every_stop, every_end}
 use Rattle.words.proofs.names.name_bytes.Goals as goal
 
-pub returns-then-not-is-name-byte : goal.returns-then-not-is-name-byte
-returns-then-not-is-name-byte c = sym (every_stop name_byte c.args.word.now 0 c.loop-b.b-index c.loop-b-test.true c.if-not-is-name-byte.ensures) ∙ c.loop-b.invariant
+pub returns-then-not-is_name_byte : goal.returns-then-not-is_name_byte
+returns-then-not-is_name_byte c = sym (every_stop name_byte c.args.word.now 0 c.loop-b.b-index c.loop-b-test.true c.if-not-is_name_byte.ensures) ∙ c.loop-b.invariant
 
 pub loop-b-preserved : goal.loop-b-preserved
-loop-b-preserved c = sym (every_more name_byte c.args.word.now 0 c.loop-b.b-index c.loop-b-test.true c.if-not-is-name-byte.ensures) ∙ c.loop-b.invariant
+loop-b-preserved c = sym (every_more name_byte c.args.word.now 0 c.loop-b.b-index c.loop-b-test.true c.if-not-is_name_byte.ensures) ∙ c.loop-b.invariant
 
 pub returns : goal.returns
 returns c = sym (every_end name_byte c.args.word.now 0 c.loop-b.b-index (omega arith)) ∙ c.loop-b.invariant

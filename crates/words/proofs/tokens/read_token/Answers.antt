@@ -10,4 +10,4 @@ at_quote p [] e = absurd (omega arith)
 at_quote p (c ∷ cs) e = cond-true (eqb c 39) _ _ (eq-eqb _ _ e) ∙ ap quotation (sym (take_rest (c ∷ cs) 1))
 
 pub returns-in-39 : goal.returns-in-39
-returns-in-39 c = c.read-quoted.ensures ∙ sym (at_quote c.args.position c.args.word.now c.in-39.is)
+returns-in-39 c = c.read_quoted.ensures ∙ sym (at_quote c.args.position c.args.word.now c.in-39.is)

@@ -18,9 +18,9 @@ loop-column-preserved c =
     let i = c.loop-column.column in
     let ks : List Kind = listed c.args.kinds in
     let many : length ks ≡ n = length_firsts n _ _ in
-    let k : c.kind-at.result ≡ get_or ks i Number = c.kind-at.ensures ∙ sym (get_d_firsts n c.args.kinds.at Number i c.loop-column-test.true) in
+    let k : c.kind_at.result ≡ get_or ks i Number = c.kind_at.ensures ∙ sym (get_d_firsts n c.args.kinds.at Number i c.loop-column-test.true) in
     puts_as (puts_both c.loop-column.invariant c.put.ensures)
-    (ap (λ b. map letter (take i ks) ++ b ∷ []) (c.letter-of.ensures ∙ ap letter k) ∙ sym (map_more letter ks i Number (omega arith)))
+    (ap (λ b. map letter (take i ks) ++ b ∷ []) (c.letter_of.ensures ∙ ap letter k) ∙ sym (map_more letter ks i Number (omega arith)))
 
 pub returns : goal.returns
 returns c =

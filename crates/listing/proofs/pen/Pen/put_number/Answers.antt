@@ -9,5 +9,5 @@ pub returns : goal.returns
 returns c =
     let z = c.args.z in
     let same : to_z w64 (of_z w64 z) ≡ z = to_z-of_z w64 z c.ranges.z in
-    puts_as (puts_both c.put-sign.ensures c.put-decimal.ensures)
-    (ap₂ (λ y n. sign y ++ decimal n) same (c.unsigned-abs.ensures.value ∙ ap nat_abs same) ∙ signed_parts z)
+    puts_as (puts_both c.put_sign.ensures c.put_decimal.ensures)
+    (ap₂ (λ y n. sign y ++ decimal n) same (c.unsigned_abs.ensures.value ∙ ap nat_abs same) ∙ signed_parts z)

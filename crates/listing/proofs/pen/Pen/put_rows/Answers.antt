@@ -1,4 +1,4 @@
-use Rattle.std.proofs.Common.{◌≡◌, List, [], ◌∷◌, ◌++◌, map, length, get_or, take, sym, ap, ◌∙◌, arith}
+use Rattle.std.proofs.Common.{List, [], map, take, sym, ap, ◌∙◌}
 use Rattle.std.specs.List.{flat_map}
 use Rattle.std.proofs.lemmas.List.{take_all, map_more, flat_map_more}
 use Rattle.relation.specs.Rows.{SpecRow}
@@ -18,7 +18,7 @@ loop-row-preserved c =
     let text : SpecRow → List _ = row_text (listed c.args.kinds) in
     let mean : Row → SpecRow = meant c.args.kinds.count in
     let blank : Row = record { first = 0; end = 0; values = [] } in
-    puts_as (puts_both c.loop-row.invariant c.put-row.ensures)
+    puts_as (puts_both c.loop-row.invariant c.put_row.ensures)
     (flat_map_more text [] (map mean (take i rows)) _ ∙ ap (flat_map text) (sym (map_more mean rows i blank c.loop-row-test.true)))
 
 pub returns : goal.returns

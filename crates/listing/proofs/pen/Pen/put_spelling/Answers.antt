@@ -5,5 +5,5 @@ use Rattle.listing.specs.Text.{spelled}
 use Rattle.listing.proofs.Puts.{puts_nothing, puts_as}
 use Rattle.listing.proofs.pen.Pen.put_spelling.Goals as goal
 
-pub returns-in-default : goal.returns-in-default
-returns-in-default c = puts_as (puts_nothing c.args.self.now) (ap spelled (c.in-default.ensures ∙ ap word_text (to_z-of_z w64 c.args.value c.ranges.value)))
+pub returns-in_default : goal.returns-in_default
+returns-in_default c = puts_as (puts_nothing c.args.self.now) (ap spelled (c.in_default.ensures ∙ ap word_text (to_z-of_z w64 c.args.value c.ranges.value)))

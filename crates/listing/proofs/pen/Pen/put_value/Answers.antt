@@ -6,5 +6,5 @@ use Rattle.listing.proofs.pen.Pen.put_value.Goals as goal
 
 pub returns-in-Word : goal.returns-in-Word
 returns-in-Word c =
-    puts_as (puts_both (puts_both c.put.ensures c.put-spelling.ensures) c.put-in-Word.ensures)
+    puts_as (puts_both (puts_both c.put.ensures c.put_spelling.ensures) c.put-in-Word.ensures)
     (ap₂ value_text (sym c.in-Word.is) (to_z-of_z w64 c.args.value c.ranges.value))

@@ -1,4 +1,4 @@
-use Rattle.std.proofs.Common.{take, pos}
+use Rattle.std.proofs.Common.{take}
 use Rattle.relation.specs.Stored.{listed, meant}
 use Rattle.listing.specs.Pens.{Puts}
 use Rattle.listing.specs.Text.{values_text}

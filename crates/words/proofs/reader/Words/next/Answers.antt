@@ -11,5 +11,5 @@ pub returns : goal.returns
 returns c =
     record {
       kept = refl;
-      cases = c.skip-from.ensures.same ∙ c.word-end-end.ensures.cuts ∙ ended_some _ _ _ _ c.word-end-end.ensures.more c.word-end-end.ensures.within;
+      cases = c.skip-from.ensures.same ∙ c.word_end-end.ensures.cuts ∙ ended_some _ _ _ _ c.word_end-end.ensures.more c.word_end-end.ensures.within;
     }

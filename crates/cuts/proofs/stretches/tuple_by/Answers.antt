@@ -6,7 +6,7 @@ use Rattle.relation.specs.Operations.{picked}
 use Rattle.relation.specs.Sets.{column}
 use Rattle.relation.specs.Stored.{firsts}
 use Rattle.cuts.proofs.Picking.{set_behind}
-use Rattle.cuts.proofs.stretches.tuple.Goals as goal
+use Rattle.cuts.proofs.stretches.tuple_by.Goals as goal
 
 pub returns : goal.returns
 returns c =
