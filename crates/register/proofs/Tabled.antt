@@ -2,7 +2,7 @@
 use Rattle.std.proofs.Common.{◌≡◌, ℕ, zero, suc, ◌+◌, ◌-◌, ◌<◌, ◌≤◌, min, Bool, true, false, ◌&&◌, ltb, leb, List, [], ◌∷◌, ◌++◌, map, length, get_or, take, drop, Result, Ordering, Less, Equal, Greater, sym, refl, ap, ◌∙◌, subst, ap₂, inl, inr, arith}
 use Rattle.std.proofs.lemmas.List.{length-map, length-take, length-drop, get_or-map, get_or-take, get_or-drop, map_more, append-nil, take_at, take-take, length-append}
 use Rattle.std.proofs.lemmas.Bool.{cases_lt, and_parts, and_from, lt-ltb, le-leb, ltb-true, leb-true, both_ways, or_left, or_right, or_cases}
-use Rattle.std.specs.List.{AllByRecursion as All}
+use Rattle.std.specs.List.{AllByRecursion as AllOf}
 use Rattle.std.specs.Cmp.Lexicographic.{slice_cmp}
 use Rattle.std.specs.Ordering.{is_lt, int_cmp}
 use Rattle.std.proofs.ByRecursion.{All-get_or, All-from_get_or}
@@ -50,11 +50,11 @@ ahead_from r s h = elim (or_cases (is_lt (slice_cmp int_cmp r.tuple s.tuple)) (e
   | inr e ↦ let p = and_parts (equal r.tuple s.tuple) (ltb r.first s.first) e in inr ((equal_decides r.tuple s.tuple).0 p.0, ltb-true r.first s.first p.1)
 ]
 
-all_ahead : (r : SpecRow) (rows : List SpecRow) → All (Ahead r) rows → every (is_ahead r) rows ≡ true
+all_ahead : (r : SpecRow) (rows : List SpecRow) → AllOf (Ahead r) rows → every (is_ahead r) rows ≡ true
 all_ahead r [] h = refl
 all_ahead r (s ∷ rows) h = and_from (is_ahead r s) (every (is_ahead r) rows) (ahead_test r s h.0) (all_ahead r rows h.1)
 
-ahead_all : (r : SpecRow) (rows : List SpecRow) → every (is_ahead r) rows ≡ true → All (Ahead r) rows
+ahead_all : (r : SpecRow) (rows : List SpecRow) → every (is_ahead r) rows ≡ true → AllOf (Ahead r) rows
 ahead_all r [] h = tt
 ahead_all r (s ∷ rows) h = let p = and_parts (is_ahead r s) (every (is_ahead r) rows) h in (ahead_from r s p.0, ahead_all r rows p.1)
 
@@ -153,15 +153,15 @@ module _ (ks : List Kind) (xs list : List SpecRow) (good : every (good_row ks) x
       let g = and_parts (is_period x.first x.end) (fits ks x.tuple) (every_at (good_row ks) xs no_spec i.0 good i.1.0) in
       and_from (is_period r.first r.end) (fits ks r.tuple) (and_from _ _ (lt-ltb _ _ p.0) (le-leb _ _ p.1)) (ap (fits ks) (sym i.1.1.0) ∙ g.1)
 
-  pub list_good : All (λ r. good_row ks r ≡ true) list
+  pub list_good : AllOf (λ r. good_row ks r ≡ true) list
   list_good = All-from_get_or (λ r. good_row ks r ≡ true) list no_spec list_fits
 
-pub every_all : {X : Type 0} (p : X → Bool) (xs : List X) → All (λ x. p x ≡ true) xs → every p xs ≡ true
+pub every_all : {X : Type 0} (p : X → Bool) (xs : List X) → AllOf (λ x. p x ≡ true) xs → every p xs ≡ true
 every_all p [] h = refl
 every_all p (x ∷ xs) h = and_from (p x) (every p xs) h.0 (every_all p xs h.1)
 
 -- what is stored means the list again
-pub stored_back : (ks : List Kind) (c : ℕ) (list : List SpecRow) → length ks ≡ c → c ≤ most_columns → All (λ r. good_row ks r ≡ true) list → map (meant c) (map stored list) ≡ list
+pub stored_back : (ks : List Kind) (c : ℕ) (list : List SpecRow) → length ks ≡ c → c ≤ most_columns → AllOf (λ r. good_row ks r ≡ true) list → map (meant c) (map stored list) ≡ list
 stored_back ks c [] e few h = refl
 stored_back ks c (r ∷ list) e few h =
     let f = (and_parts (is_period r.first r.end) (fits ks r.tuple) h.0).1 in

@@ -1,6 +1,6 @@
 -- The law of every history: whatever was called, in whatever order, the register has what the one-day registers have.
 use Rattle.std.specs.Prelude.{◌≡◌, ℕ, ◌≤◌, Bool, true, false, ◌↔◌, List, [], ◌∷◌, length, is_some, Some, None, Option}
-use Rattle.std.specs.List.{AllByRecursion as All}
+use Rattle.std.specs.List.{AllByRecursion as AllOf}
 use Rattle.relation.specs.declared.refusals.Reason.{Reason}
 use Rattle.relation.specs.Rows.{SpecRow, Period, Agree as AgreeOnDays}
 use Rattle.relation.specs.Values.{word}
@@ -59,7 +59,7 @@ pub data Trace (number : ℕ) : List Event → Store → Type 0 where
 pub record PublishedLists (s : Store) : Type 0 where
   pub same : (m n : ℕ) (p q : Part) → held s m ≡ Some p → held s n ≡ Some q → p.mark ≡ Published → q.mark ≡ Published → p.kinds ≡ q.kinds →
       (AgreeOnDays p.rows q.rows ↔ (p.rows ≡ q.rows))
-  pub fewest : (n : ℕ) (p : Part) (rows : List SpecRow) → held s n ≡ Some p → p.mark ≡ Published → All Period rows → AgreeOnDays p.rows rows →
+  pub fewest : (n : ℕ) (p : Part) (rows : List SpecRow) → held s n ≡ Some p → p.mark ≡ Published → AllOf Period rows → AgreeOnDays p.rows rows →
       length p.rows ≤ length rows
 
 -- whatever was called, refused calls too: on every day the register has what the one-day register of that day has, and what is published is

@@ -1,7 +1,7 @@
 -- The steps of tallying a list put together: the rows are gathered, tallied, moved to the front and listed.
 use Rattle.std.proofs.Common.{◌≡◌, ℕ, ◌+◌, ◌-◌, ◌<◌, ◌≤◌, List, ◌++◌, map, length, get_or, take, sym, ap, ◌∙◌, subst, arith}
 use borrow.Rule.Slice.PartMut.{post_of, Post-is}
-use Rattle.std.specs.List.{between, AllByRecursion as All}
+use Rattle.std.specs.List.{between, AllByRecursion as AllOf}
 use Rattle.std.proofs.lemmas.List.Edits.{length-between, get_or-between}
 use Rattle.std.proofs.lemmas.List.{ext_get_or, get_or-take, length-append, length-drop, length-take-le, take_at}
 use Rattle.relation.specs.declared.rows.Row.{Row}
@@ -65,7 +65,7 @@ module _ (by : List ℕ) (n : ℕ) (rows part : List Row) (le : n ≤ length row
 
   -- ---- the results of the gathered rows
 
-  module _ (xs : List SpecRow) (f : ℕ → TupleSet) (from : take n rows ≡ map stored xs) (lists : Lists xs f) (w : Tally) (narrow : Narrow w) (columns : All (λ c. c ≤ most_columns) by) (few : length by < most_columns)
+  module _ (xs : List SpecRow) (f : ℕ → TupleSet) (from : take n rows ≡ map stored xs) (lists : Lists xs f) (w : Tally) (narrow : Narrow w) (columns : AllOf (λ c. c ≤ most_columns) by) (few : length by < most_columns)
       (m : Measure) (measured : m ≡ measure_of w) (made : List Row) (results : Results m by (take n back) made) where
     disjoint : Disjoint (regrouped by xs)
     disjoint = disjoint_regrouped by xs (disjoint_from_coalesced xs lists.canonical.coalesced)
@@ -81,7 +81,7 @@ module _ (by : List ℕ) (n : ℕ) (rows part : List Row) (le : n ≤ length row
     pub result_sets : (d : ℕ) → Day d → Same (on (map (meant (length by + 1)) made) d) (tally w by (f d))
     result_sets = same_sets w narrow by columns few (regrouped by xs) disjoint made of_stored f same
 
-    pub result_tidy : All (Tidy (length by + 1)) made
+    pub result_tidy : AllOf (Tidy (length by + 1)) made
     result_tidy = made_tidy w narrow by columns few (regrouped by xs) disjoint made of_stored
 
 -- ---- the results moved to the front

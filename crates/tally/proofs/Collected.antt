@@ -1,7 +1,7 @@
 -- What is known of a source's collected list: it is not longer than the source, and its rows keep to the source's kinds.
 use Rattle.std.proofs.Common.{◌≡◌, ℕ, zero, suc, ◌-◌, ◌<◌, ◌≤◌, Bool, true, ◌&&◌, ltb, List, [], ◌∷◌, map, length, get_or, take, pos, is_some, Some, None, Option, sym, refl, ap, ◌∙◌, subst, arith}
 use lib.ListN.{length-map}
-use Rattle.std.specs.List.{AllByRecursion as All}
+use Rattle.std.specs.List.{AllByRecursion as AllOf}
 use Rattle.std.proofs.ByRecursion.{All-append, All-get_or, All-from_get_or}
 use Rattle.std.proofs.lemmas.List.{get_or-map, get_or-take, take_at, take-take}
 use Rattle.std.proofs.lemmas.Bool.{and_parts, ltb-true, false≢true}
@@ -74,7 +74,7 @@ module _ (m : Meaning) (sound : Sound m) (w : Tally) (by : List ℕ) (fit : fitt
   in_row : (c : ℕ) → is_some (kind_of m c) ≡ true → c ≤ most_columns
   in_row c h = let l = cell_within m.kinds c h in omega (arith, sound.few_kinds)
 
-  pub columns : All (λ c. c ≤ most_columns) by
+  pub columns : AllOf (λ c. c ≤ most_columns) by
   columns = All-from_get_or (λ c. c ≤ most_columns) by 0 (λ i lt. in_row (get_or by i 0) (every_at there by 0 i (and_parts (every there by) (measurable m w) later).0 lt))
 
   is_measurable : measurable m w ≡ true
@@ -102,11 +102,11 @@ module _ (m : Meaning) (sound : Sound m) (w : Tally) (by : List ℕ) (fit : fitt
 
 -- ---- the list
 
-all_rows : (P : SpecRow → Type 0) (m : Meaning) → ((k : ℕ) (r : SpecRow) → m.at k ≡ Some r → P r) → (n : ℕ) → All P (rows_below m n)
+all_rows : (P : SpecRow → Type 0) (m : Meaning) → ((k : ℕ) (r : SpecRow) → m.at k ≡ Some r → P r) → (n : ℕ) → AllOf P (rows_below m n)
 all_rows P m each zero = tt
 all_rows P m each (suc n) = All-append P (rows_below m n) (filled? (m.at n)) (all_rows P m each n) (one (m.at n) refl)
   where
-    one : (o : Option SpecRow) → m.at n ≡ o → All P (filled? o)
+    one : (o : Option SpecRow) → m.at n ≡ o → AllOf P (filled? o)
     one None e = tt
     one (Some r) e = (each n r e, tt)
 

@@ -1,7 +1,7 @@
 -- The day sets of result rows are the tallied sets.
 use Rattle.std.proofs.Common.{◌≡◌, ℕ, ◌+◌, ◌<◌, ◌≤◌, List, [], ◌∷◌, ◌++◌, map, length, get_or, pos, sym, refl, ap, ◌∙◌, subst, ap₂, inl, inr, arith, length-append}
 use lib.ListN.{length-map}
-use Rattle.std.specs.List.{AllByRecursion as All}
+use Rattle.std.specs.List.{AllByRecursion as AllOf}
 use Rattle.std.proofs.ByRecursion.{All-from_get_or}
 use Rattle.std.proofs.lemmas.List.{get_or-map}
 use Rattle.relation.specs.declared.rows.Row.{Row}
@@ -38,7 +38,7 @@ module _ (c : ℕ) (few : c ≤ most_columns) (w : Row) (t : Tuple) (long : leng
   pub tidy_stored : Tidy c w
   tidy_stored = is ∙ ap (λ s. firsts most_columns s (pos 0)) (sym tuple_stored)
 
-module _ (w : Tally) (narrow : Narrow w) (by : List ℕ) (columns : All (λ c. c ≤ most_columns) by) (few : length by < most_columns)
+module _ (w : Tally) (narrow : Narrow w) (by : List ℕ) (columns : AllOf (λ c. c ≤ most_columns) by) (few : length by < most_columns)
     (xs : List SpecRow) (disjoint : Disjoint xs) (made : List Row) (results : Results (measure_of w) by (map stored xs) made) where
   -- the tuple that the group of t gives on day d
   abbrev given : ℕ → Tuple → Tuple
@@ -79,7 +79,7 @@ module _ (w : Tally) (narrow : Narrow w) (by : List ℕ) (columns : All (λ c. c
       (s.0, (l, (held, values_said s.0 d (get_or made k no_row) l held s.1.1.1)))
 
   -- each result row is of the width of a result
-  pub made_tidy : All (Tidy wide) made
+  pub made_tidy : AllOf (Tidy wide) made
   made_tidy = All-from_get_or (Tidy wide) made no_row (λ k lt.
       let p = results.periods k lt in
       let first = (get_or made k no_row).first in

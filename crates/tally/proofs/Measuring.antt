@@ -2,7 +2,7 @@
 use Rattle.std.proofs.Common.{◌≡◌, ℕ, zero, suc, ◌-◌, ◌<◌, ◌≤◌, Bool, true, false, cond, ◌&&◌, List, [], ◌∷◌, map, get_or, ℤ, pos, ◌+ℤ◌, fold, filter, sym, refl, ap, ◌∙◌, ap₂, arith}
 use lib.ListN.{length-map}
 use Rattle.std.specs.Int.{int_min, int_max}
-use Rattle.std.specs.List.{AllByRecursion as All}
+use Rattle.std.specs.List.{AllByRecursion as AllOf}
 use Rattle.std.proofs.lemmas.Bool.{cond-true, cond-false}
 use Rattle.relation.specs.Bounds.{most_columns}
 use Rattle.relation.specs.Lists.{Member}
@@ -31,7 +31,7 @@ get_d_firsts (suc n) (x ∷ xs) d (suc i) h = get_d_firsts n xs d i (omega arith
 pub column_stored : (c : ℕ) (t : Tuple) → c ≤ most_columns → column c (firsts most_columns t (pos 0)) ≡ column c t
 column_stored c t few = get_d_firsts most_columns t (pos 0) (c - 1) (omega arith)
 
-pub picked_stored : (by : List ℕ) (t : Tuple) → All (λ c. c ≤ most_columns) by → picked by (firsts most_columns t (pos 0)) ≡ picked by t
+pub picked_stored : (by : List ℕ) (t : Tuple) → AllOf (λ c. c ≤ most_columns) by → picked by (firsts most_columns t (pos 0)) ≡ picked by t
 picked_stored [] t h = refl
 picked_stored (c ∷ by) t h = ap₂ (λ z zs. z ∷ zs) (column_stored c t h.0) (picked_stored by t h.1)
 
@@ -45,7 +45,7 @@ kept_map p q f e (x ∷ xs) = step (q x) (e x) (kept_map p q f e xs)
     step true h more = cond-true _ _ _ h ∙ ap (λ ys. f x ∷ ys) more
     step false h more = cond-false _ _ _ h ∙ more
 
-pub in_group_stored : (by : List ℕ) → All (λ c. c ≤ most_columns) by → (x : SpecRow) (d : ℕ) (xs : List SpecRow) → in_group by (stored x) d (map stored xs) ≡ map stored (held_in by x.tuple d xs)
+pub in_group_stored : (by : List ℕ) → AllOf (λ c. c ≤ most_columns) by → (x : SpecRow) (d : ℕ) (xs : List SpecRow) → in_group by (stored x) d (map stored xs) ≡ map stored (held_in by x.tuple d xs)
 in_group_stored by few x d xs =
     kept_map (λ w. holds (bare w) d && equal (picked by w.values) (picked by (stored x).values)) (λ r. holds r d && equal (picked by r.tuple) (picked by x.tuple)) stored
     (λ r. ap₂ (λ s t. holds r d && equal s t) (picked_stored by r.tuple few) (picked_stored by x.tuple few)) xs

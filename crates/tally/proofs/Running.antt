@@ -1,6 +1,6 @@
 -- The groups of gathered rows are tallied one after the other, from turn to turn.
 use Rattle.std.proofs.Common.{◌≡◌, ℕ, ◌+◌, ◌-◌, ◌*◌, ◌<◌, ◌≤◌, Bool, true, false, cond, ◌&&◌, ◌⊎◌, List, [], ◌∷◌, ◌++◌, length, get_or, take, drop, pos, filter, sym, refl, ap, ◌∙◌, subst, ap₂, inl, inr, arith}
-use Rattle.std.specs.List.{between, AllByRecursion as All}
+use Rattle.std.specs.List.{between, AllByRecursion as AllOf}
 use Rattle.std.proofs.lemmas.List.Edits.{split_between, length-between, get_or-between}
 use Rattle.std.proofs.lemmas.List.Elements.{filter-append}
 use Rattle.std.proofs.ByRecursion.{All-from_get_or}
@@ -23,15 +23,15 @@ use Rattle.tally.specs.Results.{in_group, Says, Results}
 
 -- ---- a filter that is the same on a part, and keeps nothing elsewhere
 
-kept_none : {X : Type 0} (p : X → Bool) (xs : List X) → All (λ x. p x ≡ false) xs → filter p xs ≡ []
+kept_none : {X : Type 0} (p : X → Bool) (xs : List X) → AllOf (λ x. p x ≡ false) xs → filter p xs ≡ []
 kept_none p [] h = refl
 kept_none p (x ∷ xs) h = ap (λ b. cond b (x ∷ filter p xs) (filter p xs)) h.0 ∙ kept_none p xs h.1
 
-kept_same : {X : Type 0} (p q : X → Bool) (xs : List X) → All (λ x. p x ≡ q x) xs → filter p xs ≡ filter q xs
+kept_same : {X : Type 0} (p q : X → Bool) (xs : List X) → AllOf (λ x. p x ≡ q x) xs → filter p xs ≡ filter q xs
 kept_same p q [] h = refl
 kept_same p q (x ∷ xs) h = λ k. cond (h.0 k) (x ∷ kept_same p q xs h.1 k) (kept_same p q xs h.1 k)
 
-kept_part : {X : Type 0} (p q : X → Bool) (xs : List X) (from upto : ℕ) → from ≤ upto → All (λ x. p x ≡ false) (take from xs) → All (λ x. p x ≡ q x) (between from upto xs) → All (λ x. p x ≡ false) (drop upto xs) → filter p xs ≡ filter q (between from upto xs)
+kept_part : {X : Type 0} (p q : X → Bool) (xs : List X) (from upto : ℕ) → from ≤ upto → AllOf (λ x. p x ≡ false) (take from xs) → AllOf (λ x. p x ≡ q x) (between from upto xs) → AllOf (λ x. p x ≡ false) (drop upto xs) → filter p xs ≡ filter q (between from upto xs)
 kept_part p q xs from upto le before within after =
     ap (filter p) (split_between xs from upto le)
     ∙ filter-append p (take from xs) (between from upto xs ++ drop upto xs)

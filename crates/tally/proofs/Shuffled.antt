@@ -1,7 +1,7 @@
 -- The rows of a list in another order.
 use Rattle.std.proofs.Common.{◌≡◌, ℕ, zero, suc, ◌<◌, ◌⊎◌, List, [], ◌∷◌, map, length, get_or, sym, ap, ◌∙◌, inl, inr, arith}
 use lib.ListN.{length-map}
-use Rattle.std.specs.List.{ContainsAt as Has, AllByRecursion as All}
+use Rattle.std.specs.List.{ContainsAt as Has, AllByRecursion as AllOf}
 use Rattle.std.proofs.ByRecursion.{All-get_or, All-map}
 use Rattle.std.proofs.lemmas.List.{get_or-map}
 use Rattle.std.proofs.lemmas.Bool.{cases_order}
@@ -21,11 +21,11 @@ at_pairs R (x ∷ xs) d h zero (suc j) a lt = All-get_or (R x) xs j d (omega ari
 at_pairs R (x ∷ xs) d h (suc i) zero a lt = absurd (omega arith)
 at_pairs R (x ∷ xs) d h (suc i) (suc j) a lt = at_pairs R xs d h.1 i j (omega arith) (omega arith)
 
-pairs_of : {X : Type 0} (R : X → X → Type 0) (f : ℕ → X) (n : ℕ) → ((p q : ℕ) → p < n → q < n → (q ≡ p → ⊥) → R (f p) (f q)) → (ps : List ℕ) → All (λ p. p < n) ps → order.Distinct ps → Pairwise R (map f ps)
+pairs_of : {X : Type 0} (R : X → X → Type 0) (f : ℕ → X) (n : ℕ) → ((p q : ℕ) → p < n → q < n → (q ≡ p → ⊥) → R (f p) (f q)) → (ps : List ℕ) → AllOf (λ p. p < n) ps → order.Distinct ps → Pairwise R (map f ps)
 pairs_of R f n each [] a d = tt
 pairs_of R f n each (p ∷ ps) a d = (All-map (R (f p)) f ps (all_both (λ q lt ne. each p q a.0 lt ne) ps a.1 d.0), pairs_of R f n each ps a.1 d.1)
 
-module _ (xs : List SpecRow) (ps : List ℕ) (all : All (λ p. p < length xs) ps) where
+module _ (xs : List SpecRow) (ps : List ℕ) (all : AllOf (λ p. p < length xs) ps) where
   -- the rows at the places ps
   abbrev pub shuffled : List SpecRow
   shuffled = map (λ p. get_or xs p no_spec) ps

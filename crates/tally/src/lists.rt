@@ -1,6 +1,6 @@
 // A list of rows tallied in place.
 ghost use Rattle.std.specs.Prelude.{◌≡◌, ℕ, ◌*◌, ◌<◌, ◌≤◌, List, map, length, take, replicate, slice_index_or};
-ghost use Rattle.std.specs.List.{AllByRecursion as All};
+ghost use Rattle.std.specs.List.{AllByRecursion as AllOf};
 ghost use Rattle.relation.specs.Bounds.{most_columns, most_work};
 ghost use Rattle.relation.specs.Rows.{SpecRow, Period, Lists};
 ghost use Rattle.relation.specs.Sets.{TupleSet};
@@ -46,7 +46,7 @@ pub fn tally_list(
     requires narrow { Narrow what }
     requires periods { (i : ℕ) → i < n → Period (bare (slice_index_or rows.old i no_row)) }
     requires within { (i : ℕ) → i < n → Within (measure_of what) (slice_index_or rows.old i no_row) }
-    ensures { (xs : List SpecRow) (f : ℕ → TupleSet) → take n rows.old ≡ map stored xs → Lists xs f → All (λ c. c ≤ most_columns) by.now → TalliesSets what by.now f (length rows.old) (length index.old) result rows.new index.new }
+    ensures { (xs : List SpecRow) (f : ℕ → TupleSet) → take n rows.old ≡ map stored xs → Lists xs f → AllOf (λ c. c ≤ most_columns) by.now → TalliesSets what by.now f (length rows.old) (length index.old) result rows.new index.new }
 {
     gather(&mut rows[0..n], index, by);
     let end = tally_groups(rows, index, n, by, measure(what));

@@ -1,5 +1,5 @@
 use Rattle.std.proofs.Common.{◌≡◌, ℕ, ◌+◌, ◌-◌, ◌<◌, ◌≤◌, map, length, get_or, take, replicate, sym, ap, ◌∙◌, subst, arith}
-use Rattle.std.specs.List.{between, AllByRecursion as All}
+use Rattle.std.specs.List.{between, AllByRecursion as AllOf}
 use Rattle.std.proofs.lemmas.List.Edits.{length-between}
 use Rattle.std.proofs.lemmas.List.{get_or-take}
 use Rattle.relation.specs.Rows.{Period, on}
@@ -89,7 +89,7 @@ returns c xs f from lists columns =
     let sets = result_sets by n c.args.rows.now _ (omega arith) c.gather.ensures xs f from lists c.args.what c.requires.narrow columns c.requires.few_columns c.measure.result c.measure.ensures made e.results in
     let tidy = result_tidy by n c.args.rows.now _ (omega arith) c.gather.ensures xs f from lists c.args.what c.requires.narrow columns c.requires.few_columns c.measure.result c.measure.ensures made e.results in
     let cols = length by + 1 in
-    let listed = c.list_rows.ensures cols (omega arith) (subst (All (Tidy cols)) (sym front) tidy) in
+    let listed = c.list_rows.ensures cols (omega arith) (subst (AllOf (Tidy cols)) (sym front) tidy) in
     let of_made = subst (λ ws. HoldsList (on (map (meant cols) ws)) (length after) (length c.tally_groups-end.new.nodes) c.list_rows.result c.list_rows.new.rows c.list_rows.new.index) front listed in
     let whole = subst (λ k. HoldsList (on (map (meant cols) made)) k (length c.args.index.now) c.list_rows.result c.list_rows.new.rows c.list_rows.new.index) wide
     (subst (λ k. HoldsList (on (map (meant cols) made)) (length after) k c.list_rows.result c.list_rows.new.rows c.list_rows.new.index) long of_made) in (
