@@ -15,9 +15,8 @@ use words::lines::Lines;
 
 // Takes the row of a line in, or answers why it is refused.
 fn take_line(rows: &mut Vec<Row>, line: &[u8], kinds: Kinds) -> anyhow::Result<Option<Reason>>
-    requires { length rows.old.items ≤ most_work }
-    ensures few { length rows.new.items ≤ most_work }
-    ensures rows { OnOk result (rows.new.items ≡ take most_work (rows.old.items ++ row_in (listed kinds) line.now)) }
+    ensures few { length rows.old.items ≤ most_work → length rows.new.items ≤ most_work }
+    ensures rows { length rows.old.items ≤ most_work → OnOk result (rows.new.items ≡ take most_work (rows.old.items ++ row_in (listed kinds) line.now)) }
 {
     match read_row(line, kinds) {
         Err(reason) => Ok(Some(reason)),

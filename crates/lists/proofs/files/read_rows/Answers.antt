@@ -19,7 +19,7 @@ pub loop-line-preserved : goal.loop-line-preserved
 loop-line-preserved c =
     let ks = listed c.args.kinds in
     let next = ap (λ ls. take most_work (vec_items c.loop-line.rows ++ rows_in ks ls)) (sym c.in-Some.ensures.cases) in
-    (c.take_line.ensures.few, taken most_work (vec_items c.loop-line.rows) (rows_in ks (lines_left c.next.new.self)) _ (is_blank (texts (words c.in-Some.line.now))) (row_in ks c.in-Some.line.now) _ (sym c.if-is_blank.ensures) c.in_ok-refused.ensures.rows (next ∙ c.loop-line.invariant.1))
+    (c.take_line.ensures.few c.loop-line.invariant.0, taken most_work (vec_items c.loop-line.rows) (rows_in ks (lines_left c.next.new.self)) _ (is_blank (texts (words c.in-Some.line.now))) (row_in ks c.in-Some.line.now) _ (sym c.if-is_blank.ensures) (c.in_ok-refused.ensures.rows c.loop-line.invariant.0) (next ∙ c.loop-line.invariant.1))
 
 pub returns : goal.returns
 returns c =
