@@ -1,5 +1,5 @@
 -- The law of plans, by induction on the plan.
-use Rattle.std.proofs.Common.{◌≡◌, ℕ, ◌+◌, ◌*◌, ◌≤◌, not, leb, length}
+use Rattle.std.proofs.Common.{◌+◌, ◌*◌, ◌≤◌, not, leb, length}
 use Rattle.std.proofs.lemmas.Bool.{leb-true, and_parts}
 use Rattle.relation.specs.Bounds.{most_columns, most_places}
 use Rattle.relation.specs.Sets.{TupleSet, Same}
@@ -14,7 +14,7 @@ use Rattle.join.proofs.Sounding.{joined_sound}
 use Rattle.join.proofs.JoinDays.{join_of_days}
 use Rattle.except.specs.Sounds.{excepted_sound}
 use Rattle.except.proofs.Days.{day_sets_excepted}
-use Rattle.plans.specs.Plans.{Plan, source, select, project, window, union, join, except, meant, given, Law, LawOfPlans}
+use Rattle.plans.specs.Plans.{source, select, project, window, union, join, except, meant, given, LawOfPlans}
 use Rattle.plans.proofs.Congruent.{select_same, project_same, window_same, union_same, join_same, except_same}
 
 over : (S U V : TupleSet) → Same S U → Same U V → Same S V
