@@ -1,15 +1,14 @@
 -- What the watches mean. Place k has the watch that begins on day 10 * k and lasts 25 days. Every third place is empty.
 -- Two watchmen, 0 and 1, take turns; the first column has the watchman, the second the number k.
-use Rattle.std.specs.Prelude.{◌≡◌, ℕ, ◌+◌, ◌*◌, ◌%◌, ◌<◌, ◌≤◌, Bool, true, cond, not, ◌&&◌, List, [], ◌∷◌, pos, Some, None, Option, ◌==◌, nat_le, nat_lt, refl}
+use Rattle.std.specs.Prelude.{◌≡◌, ℕ, ◌+◌, ◌*◌, ◌%◌, ◌<◌, ◌≤◌, Bool, true, cond, not, ◌&&◌, [], ◌∷◌, pos, Some, None, Option, ◌==◌, nat_le, nat_lt, refl}
 use Rattle.std.proofs.Common.{subst, arith}
 use Rattle.std.proofs.lemmas.Bool.{ltb-true, le-leb, and_parts, and_from}
-use Rattle.relation.specs.declared.kinds.Kind.{Kind}
 use Rattle.relation.specs.declared.kinds.Kind.TheVariants.{Number}
 use Rattle.relation.specs.declared.refusals.Reason.{Reason}
 use Rattle.relation.specs.declared.refusals.Reason.TheVariants.{NoPeriod}
 use Rattle.relation.specs.Rows.{SpecRow}
 use Rattle.relation.specs.Values.{in_kind}
-use Rattle.source.specs.Meaning.{Meaning, Sound, SoundAt, fits}
+use Rattle.source.specs.Meaning.{Meaning, Sound, SoundAt}
 use Rattle.source.proofs.Cells.{cond_some}
 
 -- with one more, the last watch would end on day 1,000,005

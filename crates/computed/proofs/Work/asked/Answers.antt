@@ -1,5 +1,5 @@
 use Rattle.std.proofs.Common.{◌≡◌, ap, subst}
-use Rattle.collect.specs.Collects.{first_of, Collects}
+use Rattle.collect.specs.Collects.{Collects}
 use Rattle.layers.specs.Windows.{windowed, no_window}
 use Rattle.plans.specs.Questions.{uncovered, uncovered_plan, no_uncovered, collected}
 use Rattle.computed.specs.Watches.{watches, no_watches}

@@ -1,5 +1,5 @@
 use Rattle.std.proofs.Common.{◌≡◌, ap, subst}
-use Rattle.collect.specs.Collects.{first_of, Collects}
+use Rattle.collect.specs.Collects.{Collects}
 use Rattle.layers.specs.Windows.{windowed, no_window}
 use Rattle.plans.specs.Questions.{bare, bare_plan, no_bare, collected}
 use Rattle.computed.specs.Watches.{watches, no_watches}
