@@ -9,6 +9,6 @@ pub mod Held
 pub mod Clear
 pub mod Told
 pub mod Pigeons
-pub mod Few
+pub mod Fewest
 pub mod FromClear
 pub mod Tuples

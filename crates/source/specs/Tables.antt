@@ -1,4 +1,5 @@
 -- What a table means: rows that lie beside each other in a lent area, one place for each row of the area.
+use Rattle.std.specs.List.{list_all}
 use Rattle.std.specs.Prelude.{◌≡◌, ℕ, ◌+◌, ◌<◌, ◌≤◌, Bool, true, cond, not, ◌&&◌, List, [], length, take, Some, None, Option, ◌≢◌, nat_le, nat_lt}
 use Rattle.std.specs.declared.cmp.Ordering.TheVariants.{Less}
 use Rattle.std.specs.declared.cmp.Ordering.{Ordering}
@@ -9,7 +10,6 @@ use Rattle.relation.specs.declared.rows.Row.{Row}
 use Rattle.relation.specs.declared.refusals.Reason.{Reason}
 use Rattle.relation.specs.declared.refusals.Reason.TheVariants.{Misfit, NoPeriod, OutOfBounds, TooManyPlaces}
 use Rattle.relation.specs.Bounds.{most_columns, most_places}
-use Rattle.relation.specs.Lists.{every}
 use Rattle.relation.specs.Sets.{Tuple, Below}
 use Rattle.relation.specs.Rows.{SpecRow, Period, is_period}
 use Rattle.relation.specs.Stored.{listed, meant}
@@ -73,10 +73,10 @@ pub record NextLed (m : Meaning) (lead : Tuple) (k r : ℕ) : Type 0 where
 -- ---- when a table is refused
 
 abbrev pub all_periods : List Row → Bool
-all_periods rows = every (λ w. is_period w.first w.end) rows
+all_periods rows = list_all (λ w. is_period w.first w.end) rows
 
 abbrev pub all_fit : Kinds → List Row → Bool
-all_fit ks rows = every (λ w. fits (listed ks) (meant ks.count w).tuple) rows
+all_fit ks rows = list_all (λ w. fits (listed ks) (meant ks.count w).tuple) rows
 
 -- the reason why rows are no table of these kinds, the first that applies
 abbrev pub no_table : List Row → Kinds → Option Reason
