@@ -14,12 +14,7 @@ fn has_columns<S: Source>(source: &S, by: &[usize]) -> bool
     requires { S.Source.accepted source.now }
     ensures { result ≡ every (λ c. is_some (kind_of (S.Source.meaning source.now) c)) by.now }
 {
-    for c in by {
-        if source.kind(*c).is_none() {
-            return false;
-        }
-    }
-    true
+    by.iter().all(|c| source.kind(*c).is_some())
 }
 
 // Whether the source has the column that the tally is of, of kind n where it is summed.
