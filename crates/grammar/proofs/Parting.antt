@@ -1,4 +1,5 @@
 -- Keywords, operands and terms are read just as they are written.
+use Rattle.std.specs.List.{list_all}
 use Rattle.std.proofs.Common.{◌≡◌, true, false, not, leb, List, [], ◌∷◌, ◌++◌, length, get_or, pos, is_some, Some, None, codes, Option, sym, refl, ap, ◌∙◌, subst, ⊎_elim}
 use Rattle.std.specs.Char.{is_ascii_lowercase}
 use Rattle.std.specs.Str.{bytes_eq}
@@ -6,7 +7,6 @@ use Rattle.std.proofs.lemmas.Slice.Eq.{bytes_eq-Decides}
 use Rattle.std.proofs.lemmas.Bool.{cond-true, cond-false, cases_Bool, and_parts, not-true, true≢false}
 use Rattle.relation.specs.declared.conditions.Term.{Term}
 use Rattle.relation.specs.declared.conditions.Term.TheVariants as term
-use Rattle.relation.specs.Lists.{every}
 use Rattle.relation.specs.Values.{is_word, word, word_value}
 use Rattle.words.specs.declared.names.Reserved.{Reserved}
 use Rattle.words.specs.declared.names.Reserved.TheVariants.{During}
@@ -74,7 +74,7 @@ name_unreserved w r e =
     let p = and_parts (leb 1 (length w)) _ e in
     let q = and_parts (leb (length w) 8) _ p.1 in
     let s = and_parts (is_ascii_lowercase (get_or w 0 0)) _ q.1 in
-    let t = and_parts (every name_byte w) (not (is_some (reserved w))) s.1 in
+    let t = and_parts (list_all name_byte w) (not (is_some (reserved w))) s.1 in
     other_bytes w (spelled_reserved r) (λ same. true≢false (sym (ap (λ v. is_some (reserved v)) same ∙ ap is_some (reserved_is r)) ∙ not-true (is_some (reserved w)) t.1))
 
 -- ---- operands

@@ -1,11 +1,11 @@
 -- Columns picked from kinds, tuples and stored rows.
+use Rattle.std.specs.List.{list_all}
 use Rattle.std.proofs.Common.{◌≡◌, ℕ, zero, suc, ◌+◌, ◌-◌, ◌<◌, ◌≤◌, true, false, leb, List, [], ◌∷◌, map, length, get_or, take, set, pos, Some, None, Option, sym, refl, ap, ◌∙◌, subst, ap₂, ⊎_elim, arith}
 use Rattle.std.proofs.lemmas.List.{length-take-le, get_or-take, get_or-map}
 use Rattle.std.proofs.lemmas.Bool.{and_parts, cases_lt, le-leb, lt-leb, and_from, and_left, and_right}
 use Rattle.relation.specs.declared.kinds.Kind.TheVariants.{Number}
 use Rattle.relation.specs.declared.rows.Row.{Row}
 use Rattle.relation.specs.Bounds.{most_columns}
-use Rattle.relation.specs.Lists.{every}
 use Rattle.relation.specs.Rows.{SpecRow}
 use Rattle.relation.specs.Sets.{Tuple, column}
 use Rattle.relation.specs.Stored.{firsts, stored}
@@ -32,10 +32,10 @@ column_low n c h = sym (and_left (leb 1 c) (leb c n) (lt-leb 1 c h))
 pub column_high : (n c : ℕ) → n < c → false ≡ is_column n c
 column_high n c h = sym (and_right (leb 1 c) (leb c n) (lt-leb c n h))
 
-pub all_columns_lem : (n : ℕ) (cs : List ℕ) → 1 ≤ length cs → length cs ≤ most_columns → every (is_column n) cs ≡ true → are_columns n cs ≡ true
+pub all_columns_lem : (n : ℕ) (cs : List ℕ) → 1 ≤ length cs → length cs ≤ most_columns → list_all (is_column n) cs ≡ true → are_columns n cs ≡ true
 all_columns_lem n cs some few each = and_from (leb 1 (length cs)) _ (le-leb 1 (length cs) some) (and_from (leb (length cs) most_columns) _ (le-leb (length cs) most_columns few) each)
 
-pub one_missing : (n : ℕ) (cs : List ℕ) → every (is_column n) cs ≡ false → are_columns n cs ≡ false
+pub one_missing : (n : ℕ) (cs : List ℕ) → list_all (is_column n) cs ≡ false → are_columns n cs ≡ false
 one_missing n cs h = and_right (leb 1 (length cs)) _ (and_right (leb (length cs) most_columns) _ h)
 
 -- six places hold up to six columns
@@ -77,15 +77,15 @@ cell_in xs zero d h k = absurd (omega arith)
 cell_in xs (suc i) d h k = let same : i ≡ suc i - 1 = omega arith in nth_at xs i d (omega arith) ∙ ap (λ j. Some (get_or xs j d)) same
 
 module _ {X : Type 0} (d : X) (xs : List X) where
-  nth_picked : (cs : List ℕ) (i b : ℕ) → every (is_column (length xs)) cs ≡ true → Some b ≡ nth cs i → cell xs b ≡ nth (map (λ c. get_or xs (c - 1) d) cs) i
+  nth_picked : (cs : List ℕ) (i b : ℕ) → list_all (is_column (length xs)) cs ≡ true → Some b ≡ nth cs i → cell xs b ≡ nth (map (λ c. get_or xs (c - 1) d) cs) i
   nth_picked [] i b h e = let z : ◌≡◌ {A = ℕ} 0 1 = cc in absurd (omega arith)
   nth_picked (c ∷ cs) zero b h e =
       let same : b ≡ c = cc in
-      let within = is_column_lem (length xs) c (and_parts (is_column (length xs) c) (every (is_column (length xs)) cs) h).0 in
+      let within = is_column_lem (length xs) c (and_parts (is_column (length xs) c) (list_all (is_column (length xs)) cs) h).0 in
       ap (cell xs) same ∙ cell_in xs c d within.0 within.1
-  nth_picked (c ∷ cs) (suc i) b h e = nth_picked cs i b (and_parts (is_column (length xs) c) (every (is_column (length xs)) cs) h).1 e
+  nth_picked (c ∷ cs) (suc i) b h e = nth_picked cs i b (and_parts (is_column (length xs) c) (list_all (is_column (length xs)) cs) h).1 e
 
-  pub cell_picked : (cs : List ℕ) (c b : ℕ) → every (is_column (length xs)) cs ≡ true → Some b ≡ cell cs c → cell xs b ≡ cell (map (λ j. get_or xs (j - 1) d) cs) c
+  pub cell_picked : (cs : List ℕ) (c b : ℕ) → list_all (is_column (length xs)) cs ≡ true → Some b ≡ cell cs c → cell xs b ≡ cell (map (λ j. get_or xs (j - 1) d) cs) c
   cell_picked cs zero b h e = let z : ◌≡◌ {A = ℕ} 0 1 = cc in absurd (omega arith)
   cell_picked cs (suc c) b h e = nth_picked cs c b h e
 
@@ -100,22 +100,22 @@ cell_missing f xs (suc c) e = nth_beyond f xs c e
 
 -- ---- the parts of a row
 
-picked_value : (n : ℕ) (cs : List ℕ) (o : Option SpecRow) (c b : ℕ) → every (is_column n) cs ≡ true → ((r : SpecRow) → o ≡ Some r → length r.tuple ≡ n) → Some b ≡ cell cs c → value? o b ≡ value? (picked_row cs o) c
+picked_value : (n : ℕ) (cs : List ℕ) (o : Option SpecRow) (c b : ℕ) → list_all (is_column n) cs ≡ true → ((r : SpecRow) → o ≡ Some r → length r.tuple ≡ n) → Some b ≡ cell cs c → value? o b ≡ value? (picked_row cs o) c
 picked_value n cs None c b each long e = refl
-picked_value n cs (Some r) c b each long e = cell_picked (pos 0) r.tuple cs c b (subst (λ k. every (is_column k) cs ≡ true) (sym (long r refl)) each) e
+picked_value n cs (Some r) c b each long e = cell_picked (pos 0) r.tuple cs c b (subst (λ k. list_all (is_column k) cs ≡ true) (sym (long r refl)) each) e
 
 pub missing_value : (cs : List ℕ) (o : Option SpecRow) (c : ℕ) → None ≡ cell cs c → None ≡ value? (picked_row cs o) c
 missing_value cs None c e = refl
 missing_value cs (Some r) c e = cell_missing (λ j. column j r.tuple) cs c e
 
-picked_stored : (n : ℕ) (cs : List ℕ) (t : Tuple) → n ≤ most_columns → every (is_column n) cs ≡ true → picked cs (firsts most_columns t (pos 0)) ≡ picked cs t
+picked_stored : (n : ℕ) (cs : List ℕ) (t : Tuple) → n ≤ most_columns → list_all (is_column n) cs ≡ true → picked cs (firsts most_columns t (pos 0)) ≡ picked cs t
 picked_stored n [] t h e = refl
 picked_stored n (c ∷ cs) t h e =
-    let both = and_parts (is_column n c) (every (is_column n) cs) e in
+    let both = and_parts (is_column n c) (list_all (is_column n) cs) e in
     let within = is_column_lem n c both.0 in
     ap₂ ◌∷◌ (column_stored c t (omega (arith, within.1))) (picked_stored n cs t h both.1)
 
-picked_row_lem : (n : ℕ) (cs : List ℕ) (o : Option SpecRow) (w : Row) → n ≤ most_columns → every (is_column n) cs ≡ true → Some w ≡ row? o
+picked_row_lem : (n : ℕ) (cs : List ℕ) (o : Option SpecRow) (w : Row) → n ≤ most_columns → list_all (is_column n) cs ≡ true → Some w ≡ row? o
     → Some (record { first = w.first; end = w.end; values = firsts most_columns (picked cs w.values) (pos 0) }) ≡ row? (picked_row cs o)
 picked_row_lem n cs None w h e p = let z : ◌≡◌ {A = ℕ} 0 1 = cc in absurd (omega arith)
 picked_row_lem n cs (Some r) w h e p =
@@ -141,7 +141,7 @@ begins_from [] t h each = tt
 begins_from (z ∷ lead) [] h each = absurd (omega arith)
 begins_from (z ∷ lead) (y ∷ t) h each = (each 0 (omega arith), begins_from lead t (omega arith) (λ i lt. each (suc i) (omega arith)))
 
-module _ (cs : List ℕ) (t lead : Tuple) (n k : ℕ) (each : every (is_column (length t)) cs ≡ true) (own : InPlace cs n) (few : k ≤ n) (front : k ≤ length lead) where
+module _ (cs : List ℕ) (t lead : Tuple) (n k : ℕ) (each : list_all (is_column (length t)) cs ≡ true) (own : InPlace cs n) (few : k ≤ n) (front : k ≤ length lead) where
   wide : k ≤ length t
   wide = ⊎_elim
       (λ some.
@@ -189,5 +189,5 @@ module _ (m : Meaning) (s : Columns) (sound : Sound m) (allowed : no_project m (
   pub seek_picked : (lead : Tuple) (n j k r : ℕ) → InPlace (chosen s) n → j ≤ n → j ≤ length lead → NoneLed m (take j lead) k r → NoneLed (projected m (chosen s)) lead k r
   seek_picked lead n j k r own few front = led m (projected m (chosen s)) lead (take j lead) k r refl (λ p w at h.
       let v = picked_from (chosen s) (m.at p) w at in
-      let each : every (is_column (length v.0.tuple)) (chosen s) ≡ true = subst (λ c. every (is_column c) (chosen s) ≡ true) (sym (long p v.0 v.1.0)) rule.each in
+      let each : list_all (is_column (length v.0.tuple)) (chosen s) ≡ true = subst (λ c. list_all (is_column c) (chosen s) ≡ true) (sym (long p v.0 v.1.0)) rule.each in
       (v.0, (v.1.0, begins_front (chosen s) v.0.tuple lead n j each own few front (subst (Begins lead) v.1.1 h))))

@@ -1,8 +1,8 @@
 -- Columns chosen from those of a source. Columns count from 1.
+use Rattle.std.specs.List.{list_all}
 use Rattle.std.specs.Prelude.{◌≡◌, ℕ, ◌+◌, ◌<◌, ◌≤◌, Bool, ◌&&◌, List, length, ◌≢◌, nat_le, slice_index}
 use Rattle.relation.specs.Bounds.{most_columns}
 use Rattle.relation.specs.Stored.{firsts}
-use Rattle.relation.specs.Lists.{every}
 use Rattle.layers.specs.declared.columns.Columns.{Columns}
 
 -- the columns in their order
@@ -15,7 +15,7 @@ is_column n c = nat_le 1 c && nat_le c n
 
 -- one to six columns, each one of n
 abbrev pub are_columns : ℕ → List ℕ → Bool
-are_columns n cs = nat_le 1 (length cs) && (nat_le (length cs) most_columns && every (is_column n) cs)
+are_columns n cs = nat_le 1 (length cs) && (nat_le (length cs) most_columns && list_all (is_column n) cs)
 
 -- a row has room for the column
 abbrev pub InRow : ℕ → Type 0

@@ -1,4 +1,5 @@
 -- Each layer over sound sources is sound: the lemmas that the sources' ghost members cite.
+use Rattle.std.specs.List.{list_all}
 use Rattle.std.specs.Prelude.{◌≡◌, ℕ, zero, suc, ◌+◌, ◌-◌, ◌<◌, ◌≤◌, min, max, Bool, true, false, cond, not, List, [], ◌∷◌, length, get_or, pos, Some, None, Option, nat_le, nat_lt, slice_index_or, refl}
 use Rattle.std.proofs.Common.{sym, subst, arith}
 use Rattle.std.proofs.lemmas.Bool.{ltb-true, ltb-false, leb-true, and_parts, and_from, false≢true}
@@ -11,7 +12,6 @@ use Rattle.relation.specs.Bounds.{most_columns, most_places}
 use Rattle.relation.specs.Kinds.{same_kind}
 use Rattle.relation.specs.Operations.{meets, picked}
 use Rattle.relation.specs.Sets.{Tuple}
-use Rattle.relation.specs.Lists.{every}
 use Rattle.relation.specs.Values.{in_kind}
 use Rattle.relation.specs.Rows.{SpecRow}
 use Rattle.source.specs.Meaning.{Meaning, Sound, SoundAt, fits}
@@ -108,10 +108,10 @@ fits_at (k ∷ ks) (z ∷ zs) (suc i) h lt = fits_at ks zs i (and_parts (in_kind
 pub is_column_lem : (n c : ℕ) → is_column n c ≡ true → (1 ≤ c) × (c ≤ n)
 is_column_lem n c h = let both = and_parts (nat_le 1 c) (nat_le c n) h in (leb-true 1 c both.0, leb-true c n both.1)
 
-picked_fits : (ks : List Kind) (zs : Tuple) (cs : List ℕ) → fits ks zs ≡ true → every (is_column (length ks)) cs ≡ true → fits (picked_kinds cs ks) (picked cs zs) ≡ true
+picked_fits : (ks : List Kind) (zs : Tuple) (cs : List ℕ) → fits ks zs ≡ true → list_all (is_column (length ks)) cs ≡ true → fits (picked_kinds cs ks) (picked cs zs) ≡ true
 picked_fits ks zs [] h e = refl
 picked_fits ks zs (c ∷ cs) h e =
-    let both = and_parts (is_column (length ks) c) (every (is_column (length ks)) cs) e in
+    let both = and_parts (is_column (length ks) c) (list_all (is_column (length ks)) cs) e in
     let within = is_column_lem (length ks) c both.0 in
     and_from (in_kind (slice_index_or ks (c - 1) Number) (slice_index_or zs (c - 1) (pos 0))) _ (fits_at ks zs (c - 1) h (omega (arith, within.0, within.1))) (picked_fits ks zs cs h both.1)
 
@@ -119,16 +119,16 @@ picked_fits ks zs (c ∷ cs) h e =
 pub record Chosen (n : ℕ) (cs : List ℕ) : Type 0 where
   pub some : 1 ≤ length cs
   pub few : length cs ≤ most_columns
-  pub each : every (is_column n) cs ≡ true
+  pub each : list_all (is_column n) cs ≡ true
 
 pub are_columns_lem : (m : Meaning) (cs : List ℕ) → no_project m cs ≡ None → Chosen (length m.kinds) cs
 are_columns_lem m cs allowed =
     let all = passed (are_columns (length m.kinds) cs) _ _ allowed in
     let some = and_parts (nat_le 1 (length cs)) _ all.0 in
-    let few = and_parts (nat_le (length cs) most_columns) (every (is_column (length m.kinds)) cs) some.1 in
+    let few = and_parts (nat_le (length cs) most_columns) (list_all (is_column (length m.kinds)) cs) some.1 in
     record { some = leb-true 1 (length cs) some.0; few = leb-true (length cs) most_columns few.0; each = few.1 }
 
-picked_sound : (ks : List Kind) (n k : ℕ) (cs : List ℕ) (o : Option SpecRow) (w : SpecRow) → every (is_column (length ks)) cs ≡ true → ((r : SpecRow) → o ≡ Some r → SoundAt ks n k r) → picked_row cs o ≡ Some w → SoundAt (picked_kinds cs ks) n k w
+picked_sound : (ks : List Kind) (n k : ℕ) (cs : List ℕ) (o : Option SpecRow) (w : SpecRow) → list_all (is_column (length ks)) cs ≡ true → ((r : SpecRow) → o ≡ Some r → SoundAt ks n k r) → picked_row cs o ≡ Some w → SoundAt (picked_kinds cs ks) n k w
 picked_sound ks n k cs None w e s p = let z : ◌≡◌ {A = ℕ} 0 1 = cc in absurd (omega arith)
 picked_sound ks n k cs (Some r) w e s p =
     let below = s r refl in

@@ -1,7 +1,7 @@
 -- Two lists have one text only if they are one.
 use Rattle.std.proofs.Common.{◌≡◌, ℕ, suc, ◌^◌, ◌<◌, ◌≤◌, true, leb, List, [], ◌∷◌, ◌++◌, map, length, ℤ, pos, negsuc, Some, decimal, Option, sym, refl, ap, ◌∙◌, ap₂, append_assoc, arith}
 use lib.Signed.{mag}
-use Rattle.std.specs.List.{flat_map, AllByRecursion as AllOf}
+use Rattle.std.specs.List.{list_all, flat_map, AllByRecursion as AllOf}
 use Rattle.std.specs.Str.{all_ascii_digits}
 use Rattle.std.specs.Char.{is_ascii_digit}
 use Rattle.std.specs.Fmt.{signed_decimal}
@@ -13,7 +13,6 @@ use Rattle.std.proofs.lemmas.Bool.{and_parts}
 use Rattle.std.proofs.lemmas.Bool.Decides.{nat_tests}
 use Rattle.relation.specs.declared.kinds.Kind.{Kind}
 use Rattle.relation.specs.declared.kinds.Kind.TheVariants as kind
-use Rattle.relation.specs.Lists.{every}
 use Rattle.relation.specs.Rows.{SpecRow, Period}
 use Rattle.relation.specs.Values.{word_byte, is_word, word_text, word_value, InKind, Number, Word}
 use Rattle.relation.proofs.Spelled.{words_inverse}
@@ -49,9 +48,9 @@ letters_solid [] = tt
 letters_solid (kind.Number ∷ ks) = (omega arith, letters_solid ks)
 letters_solid (kind.Word ∷ ks) = (omega arith, letters_solid ks)
 
-word_solid : (bs : List ℕ) → every word_byte bs ≡ true → Solid bs
+word_solid : (bs : List ℕ) → list_all word_byte bs ≡ true → Solid bs
 word_solid [] h = tt
-word_solid (b ∷ bs) h = let p = and_parts (word_byte b) (every word_byte bs) h in let e : word_byte b ≡ true = p.0 in (grind (arith, nat_tests), word_solid bs p.1)
+word_solid (b ∷ bs) h = let p = and_parts (word_byte b) (list_all word_byte bs) h in let e : word_byte b ≡ true = p.0 in (grind (arith, nat_tests), word_solid bs p.1)
 
 -- ---- the text of a value
 
@@ -64,7 +63,7 @@ number_small (pos n) h = let a = h.1 in omega (arith, ints)
 number_small (negsuc n) h = let a = h.0 in omega (arith, ints)
 
 -- the bytes of the word that a value of kind w is
-word_of : (z : ℤ) → Word z → (bs : List ℕ) × (word_text z ≡ Some bs) × (word_value bs ≡ Some z) × (every word_byte bs ≡ true)
+word_of : (z : ℤ) → Word z → (bs : List ℕ) × (word_text z ≡ Some bs) × (word_value bs ≡ Some z) × (list_all word_byte bs ≡ true)
 word_of z h =
     let bs = h.0 in
     let w : is_word bs ≡ true = h.1.0 in

@@ -1,11 +1,11 @@
 -- What a change of one entry leaves of a store.
+use Rattle.std.specs.List.{list_all}
 use Rattle.std.proofs.Common.{◌≡◌, ℕ, zero, suc, ◌+◌, ◌<◌, ◌≤◌, Bool, true, false, cond, List, [], ◌∷◌, ◌++◌, map, length, get_or, take, drop, set, Some, sym, refl, ap, ◌∙◌, subst, ap₂, inl, inr, arith}
 use Rattle.std.proofs.lemmas.List.{length-set, get_or-set_same, get_or-set_other, length-take, length-drop, length-map, map_push, length_push}
 use Rattle.std.proofs.lemmas.Bool.{both_ways, cases_Bool, cases_eq, cond-false, and_parts, and_from, eq-eqb}
 use Rattle.relation.specs.declared.rows.Row.{Row}
 use Rattle.relation.specs.declared.kinds.Kind.TheVariants.{Number}
 use Rattle.relation.specs.Bounds.{most_columns, most_entries, most_stored}
-use Rattle.relation.specs.Lists.{every}
 use Rattle.relation.specs.Rows.{SpecRow}
 use Rattle.relation.specs.Stored.{listed, meant, blank_row}
 use Rattle.relation.proofs.Every.{every_at}
@@ -53,19 +53,19 @@ not_rivals e f no_way = elim (cases_Bool (rivals e f)) [ inl t ↦ absurd (no_wa
 
 -- ---- what is good stays so
 
-pub every_set : {X : Type 0} (p : X → Bool) (xs : List X) (i : ℕ) (x : X) → every p xs ≡ true → p x ≡ true → every p (set xs i x) ≡ true
+pub every_set : {X : Type 0} (p : X → Bool) (xs : List X) (i : ℕ) (x : X) → list_all p xs ≡ true → p x ≡ true → list_all p (set xs i x) ≡ true
 every_set p [] i x h g = refl
-every_set p (y ∷ ys) zero x h g = and_from (p x) (every p ys) g (and_parts (p y) (every p ys) h).1
-every_set p (y ∷ ys) (suc i) x h g = let q = and_parts (p y) (every p ys) h in and_from (p y) (every p (set ys i x)) q.0 (every_set p ys i x q.1 g)
+every_set p (y ∷ ys) zero x h g = and_from (p x) (list_all p ys) g (and_parts (p y) (list_all p ys) h).1
+every_set p (y ∷ ys) (suc i) x h g = let q = and_parts (p y) (list_all p ys) h in and_from (p y) (list_all p (set ys i x)) q.0 (every_set p ys i x q.1 g)
 
-pub every_push : {X : Type 0} (p : X → Bool) (xs : List X) (x : X) → every p xs ≡ true → p x ≡ true → every p (xs ++ x ∷ []) ≡ true
+pub every_push : {X : Type 0} (p : X → Bool) (xs : List X) (x : X) → list_all p xs ≡ true → p x ≡ true → list_all p (xs ++ x ∷ []) ≡ true
 every_push p [] x h g = and_from (p x) true g refl
-every_push p (y ∷ ys) x h g = let q = and_parts (p y) (every p ys) h in and_from (p y) (every p (ys ++ x ∷ [])) q.0 (every_push p ys x q.1 g)
+every_push p (y ∷ ys) x h g = let q = and_parts (p y) (list_all p ys) h in and_from (p y) (list_all p (ys ++ x ∷ [])) q.0 (every_push p ys x q.1 g)
 
 -- what is known of the rows of an entry in use
 pub record GoodAt (e : Entry) (rows : List SpecRow) : Type 0 where
   pub few : is_few (listed e.kinds) ≡ true
-  pub rows_good : every (good_row (listed e.kinds)) rows ≡ true
+  pub rows_good : list_all (good_row (listed e.kinds)) rows ≡ true
   pub ordered : cond (is_published e.mark) (is_listed rows) true ≡ true
 
 pub good_at : (es : List Entry) (rs : List Row) (i : ℕ) → Sound es rs → i < length es → is_free (get_or es i free).mark ≡ false →
@@ -76,11 +76,11 @@ good_at es rs i sound h busy =
     let l : i < length (parts es rs) = simp length_parts h in
     let g : good_part (entry_part e (old es rs i)) ≡ true = sym (ap good_part (parts_at es rs i nobody h)) ∙ every_at good_part (parts es rs) nobody i sound.fitting l in
     let p = and_parts (is_few (listed e.kinds)) _ (sym (cond-false (is_free e.mark) true _ busy) ∙ g) in
-    let q = and_parts (every (good_row (listed e.kinds)) (map (meant e.kinds.count) (old es rs i))) _ p.1 in
+    let q = and_parts (list_all (good_row (listed e.kinds)) (map (meant e.kinds.count) (old es rs i))) _ p.1 in
     record { few = p.0; rows_good = q.0; ordered = q.1 }
 
 pub good_from : (e : Entry) (rows : List Row) → GoodAt e (map (meant e.kinds.count) rows) → good_part (entry_part e rows) ≡ true
-good_from e rows g = go (is_free e.mark) _ (and_from (is_few (listed e.kinds)) _ g.few (and_from (every (good_row (listed e.kinds)) (map (meant e.kinds.count) rows)) _ g.rows_good g.ordered))
+good_from e rows g = go (is_free e.mark) _ (and_from (is_few (listed e.kinds)) _ g.few (and_from (list_all (good_row (listed e.kinds)) (map (meant e.kinds.count) rows)) _ g.rows_good g.ordered))
   where
     go : (b x : Bool) → x ≡ true → cond b true x ≡ true
     go true x h = refl
@@ -107,7 +107,7 @@ sound_set es rs rs' i e' new s h changed room blanks far empty wide good = recor
     | inl p ↦ subst (λ x. x.kinds.count ≤ most_columns) (sym (ap (λ x. get_or (set es i e') x free) p ∙ get_or-set_same es i e' free h)) wide
     | inr ne ↦ subst (λ x. x.kinds.count ≤ most_columns) (sym (get_or-set_other es i k e' free ne)) (s.wide k)
   ];
-  fitting = ap (every good_part) changed ∙ every_set good_part (parts es rs) i (entry_part e' new) s.fitting good;
+  fitting = ap (list_all good_part) changed ∙ every_set good_part (parts es rs) i (entry_part e' new) s.fitting good;
 }
 
 -- ---- an entry in use is changed, and keeps its name and its kinds
@@ -205,7 +205,7 @@ add_result s t i row at u whole h draft room good here use' p q =
     let g = good_at es rs i whole l (draft_busy e.mark draft) in
     let fine : good_part (entry_part (grown e) (old es rs i ++ row ∷ [])) ≡ true = good_from (grown e) (old es rs i ++ row ∷ []) (record {
       few = g.few;
-      rows_good = ap (every (good_row (listed e.kinds))) (map_push (meant e.kinds.count) (old es rs i) row) ∙ every_push (good_row (listed e.kinds)) (map (meant e.kinds.count) (old es rs i)) (meant e.kinds.count row) g.rows_good good;
+      rows_good = ap (list_all (good_row (listed e.kinds))) (map_push (meant e.kinds.count) (old es rs i) row) ∙ every_push (good_row (listed e.kinds)) (map (meant e.kinds.count) (old es rs i)) (meant e.kinds.count row) g.rows_good good;
       ordered = draft_order e.mark _ draft;
     }) in
     let made = change_result s t i (grown e) (old es rs i ++ row ∷ []) whole h stands refl (λ m. refl) refl z p changed

@@ -13,7 +13,7 @@ use Rattle.register.specs.declared.store.Store.{Store}
 use Rattle.register.specs.Layout.{Part, Only, is_draft}
 use Rattle.register.specs.State.{held, drafted as is_drafted, added, issued, opened, part_rows}
 use Rattle.register.specs.History.{Event, drafted, put, published, abandoned, dropped, shown, OneDay, update, joined, public, one_day, Agree, Accounts}
-use Rattle.relation.proofs.Few.{fewest}
+use Rattle.relation.proofs.Fewest.{fewest}
 use Rattle.relation.proofs.Told.{unique}
 use Rattle.register.specs.Runs.{Left, Step, Trace, begin, next, PublishedLists, AnyHistory}
 

@@ -1,4 +1,5 @@
 -- What a new store is.
+use Rattle.std.specs.List.{list_all}
 use Rattle.std.proofs.Common.{◌≡◌, ℕ, zero, suc, ◌-◌, ◌<◌, ◌≤◌, true, false, List, ◌++◌, length, get_or, take, drop, replicate, None, sym, refl, ap, subst, arith, rules}
 use Rattle.std.proofs.lemmas.List.{places, same_lists}
 use Rattle.std.proofs.lemmas.Bool.{both_ways}
@@ -6,7 +7,6 @@ use Rattle.relation.specs.declared.rows.Row.{Row}
 use Rattle.register.specs.declared.entries.Entry.{Entry}
 use Rattle.register.specs.declared.entries.Mark.TheVariants.{Free}
 use Rattle.relation.specs.Bounds.{most_columns, most_entries}
-use Rattle.relation.specs.Lists.{every}
 use Rattle.relation.specs.Stored.{blank_row}
 use Rattle.register.specs.Layout.{parts, named, total, rivals, free, vacant, is_blank, good_part, capacity, Sound}
 
@@ -39,7 +39,7 @@ module _ (rs : List Row) (n : ℕ) (h : n ≤ length rs) where
   pub wiped_at : (k : ℕ) → k < n → get_or (wiped rs n) k blank_row ≡ blank_row
   wiped_at k l = grind (arith, places)
 
-pub all_good : (n : ℕ) (rs : List Row) → every good_part (parts (replicate n vacant) rs) ≡ true
+pub all_good : (n : ℕ) (rs : List Row) → list_all good_part (parts (replicate n vacant) rs) ≡ true
 all_good zero rs = refl
 all_good (suc n) rs = all_good n (drop 0 rs)
 

@@ -1,11 +1,11 @@
 -- What publishing a draft leaves of a store.
+use Rattle.std.specs.List.{list_all}
 use Rattle.std.proofs.Common.{◌≡◌, ℕ, suc, ◌+◌, ◌-◌, ◌<◌, ◌≤◌, min, true, List, map, length, get_or, take, drop, set, Some, sym, refl, ap, ◌∙◌, subst, inl, inr, arith, rules}
 use Rattle.std.proofs.lemmas.List.{length-map, length-take, same_lists, places}
 use Rattle.std.proofs.lemmas.Bool.{cases_lt}
 use Rattle.relation.specs.declared.rows.Row.{Row}
 use Rattle.relation.specs.declared.kinds.Kind.TheVariants.{Number}
 use Rattle.relation.specs.Bounds.{most_entries, most_stored}
-use Rattle.relation.specs.Lists.{every}
 use Rattle.relation.specs.Rows.{SpecRow, Lists, on}
 use Rattle.relation.specs.Stored.{listed, meant, stored, blank_row}
 use Rattle.relation.proofs.Firsts.{length_firsts}
@@ -57,7 +57,7 @@ publish_result s t i at u list new whole h draft a b n lists p q =
     let t1 : total (set es i e') + c ≡ total es + length list = total_set es i e' l in
     let good : good_part (entry_part e' new) ≡ true = good_from e' new (record {
       few = g.few;
-      rows_good = ap (λ x. every (good_row ks) (map (meant e.kinds.count) x)) n ∙ (ap (every (good_row ks)) back ∙ every_all (good_row ks) list fine);
+      rows_good = ap (λ x. list_all (good_row ks) (map (meant e.kinds.count) x)) n ∙ (ap (list_all (good_row ks)) back ∙ every_all (good_row ks) list fine);
       ordered = ap (λ x. is_listed (map (meant e.kinds.count) x)) n ∙ (ap is_listed back ∙ listed_test list lists.canonical.listed);
     }) in
     let stands : bearer e e.name.code ≡ true = draft_bears e draft in

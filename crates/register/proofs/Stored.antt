@@ -1,4 +1,5 @@
 -- Names and kinds as they are stored.
+use Rattle.std.specs.List.{list_all}
 use Rattle.std.proofs.Common.{◌≡◌, ℕ, zero, suc, ◌+◌, ◌^◌, ◌<◌, Bool, true, false, cond, not, ◌&&◌, T, leb, List, [], ◌∷◌, ◌++◌, length, get_or, ℤ, pos, negsuc, nat_abs, Some, None, sym, refl, ap, ◌∙◌, subst, ap₂, inl, inr, add-one, arith, w64, Fits, SFits, to_z, of_z}
 use Rattle.std.specs.Int.Signed.{non_neg}
 use Rattle.std.specs.Char.{is_ascii_lowercase, is_ascii_digit, is_ascii_alphanumeric}
@@ -7,7 +8,6 @@ use Rattle.std.proofs.lemmas.Bool.{and_parts, and_from, or_cases, or_left, or_ri
 use Rattle.relation.specs.declared.kinds.Kind.{Kind}
 use Rattle.relation.specs.declared.kinds.Kind.TheVariants.{Number}
 use Rattle.relation.specs.Kinds.{same_kind}
-use Rattle.relation.specs.Lists.{every}
 use Rattle.relation.specs.declared.columns.Kinds.{Kinds}
 use Rattle.relation.specs.declared.rows.Row.{Row}
 use Rattle.relation.specs.declared.refusals.Reason.TheVariants as no
@@ -31,19 +31,19 @@ name_byte_lem b h = elim (or_cases (is_ascii_lowercase b) (is_ascii_digit b) h) 
   | inr d ↦ or_left (is_ascii_alphanumeric b) _ (or_left _ (is_ascii_lowercase b) (or_left (is_ascii_digit b) _ d))
 ]
 
-name_bytes : (bs : List ℕ) → every name_byte bs ≡ true → every word_byte bs ≡ true
+name_bytes : (bs : List ℕ) → list_all name_byte bs ≡ true → list_all word_byte bs ≡ true
 name_bytes [] h = refl
 name_bytes (b ∷ bs) h =
-    let p = and_parts (name_byte b) (every name_byte bs) h in
-    and_from (word_byte b) (every word_byte bs) (name_byte_lem b p.0) (name_bytes bs p.1)
+    let p = and_parts (name_byte b) (list_all name_byte bs) h in
+    and_from (word_byte b) (list_all word_byte bs) (name_byte_lem b p.0) (name_bytes bs p.1)
 
 pub name_word : (bs : List ℕ) → is_name bs ≡ true → is_word bs ≡ true
 name_word bs h =
     let p = and_parts (leb 1 (length bs)) _ h in
     let q = and_parts (leb (length bs) 8) _ p.1 in
     let r = and_parts (is_ascii_lowercase (get_or bs 0 0)) _ q.1 in
-    let s = and_parts (every name_byte bs) _ r.1 in
-    and_from (leb 1 (length bs)) (leb (length bs) 8 && every word_byte bs) p.0 (and_from (leb (length bs) 8) (every word_byte bs) q.0 (name_bytes bs s.0))
+    let s = and_parts (list_all name_byte bs) _ r.1 in
+    and_from (leb 1 (length bs)) (leb (length bs) 8 && list_all word_byte bs) p.0 (and_from (leb (length bs) 8) (list_all word_byte bs) q.0 (name_bytes bs s.0))
 
 pub name_value : (bs : List ℕ) (v : ℤ) → is_name bs ≡ true → Some v ≡ word_value bs → v ≡ pos (word bs)
 name_value bs v h e = let w = value_from_word bs (name_word bs h) in cc

@@ -2,7 +2,7 @@
 use Rattle.std.proofs.Common.{◌≡◌, ℕ, zero, suc, ◌+◌, ◌-◌, ◌<◌, ◌≤◌, min, Bool, true, false, ◌&&◌, ltb, leb, List, [], ◌∷◌, ◌++◌, map, length, get_or, take, drop, Result, Ordering, Less, Equal, Greater, sym, refl, ap, ◌∙◌, subst, ap₂, inl, inr, arith}
 use Rattle.std.proofs.lemmas.List.{length-map, length-take, length-drop, get_or-map, get_or-take, get_or-drop, map_more, append-nil, take_at, take-take, length-append}
 use Rattle.std.proofs.lemmas.Bool.{cases_lt, and_parts, and_from, lt-ltb, le-leb, ltb-true, leb-true, both_ways, or_left, or_right, or_cases}
-use Rattle.std.specs.List.{AllByRecursion as AllOf}
+use Rattle.std.specs.List.{list_all, AllByRecursion as AllOf}
 use Rattle.std.specs.Cmp.Lexicographic.{slice_cmp}
 use Rattle.std.specs.Ordering.{is_lt, int_cmp}
 use Rattle.std.proofs.ByRecursion.{All-get_or, All-from_get_or}
@@ -12,11 +12,10 @@ use Rattle.relation.specs.declared.kinds.Kind.TheVariants.{Number}
 use Rattle.relation.specs.declared.columns.Kinds.{Kinds}
 use Rattle.relation.specs.declared.refusals.Refusal.{Refusal}
 use Rattle.relation.specs.Bounds.{most_columns, most_stored}
-use Rattle.relation.specs.Lists.{every}
 use Rattle.relation.specs.Rows.{SpecRow, Ahead, Listed, Day, Period, Holds, is_period, Lists, on}
 use Rattle.relation.specs.Stored.{listed, meant, stored}
 use Rattle.relation.proofs.Every.{every_at}
-use Rattle.relation.proofs.Few.{fewest}
+use Rattle.relation.proofs.Fewest.{fewest}
 use Rattle.relation.proofs.Firsts.{length_firsts}
 use Rattle.relation.specs.Sets.{equal}
 use Rattle.relation.proofs.TupleSets.{equal_decides}
@@ -50,21 +49,21 @@ ahead_from r s h = elim (or_cases (is_lt (slice_cmp int_cmp r.tuple s.tuple)) (e
   | inr e ↦ let p = and_parts (equal r.tuple s.tuple) (ltb r.first s.first) e in inr ((equal_decides r.tuple s.tuple).0 p.0, ltb-true r.first s.first p.1)
 ]
 
-all_ahead : (r : SpecRow) (rows : List SpecRow) → AllOf (Ahead r) rows → every (is_ahead r) rows ≡ true
+all_ahead : (r : SpecRow) (rows : List SpecRow) → AllOf (Ahead r) rows → list_all (is_ahead r) rows ≡ true
 all_ahead r [] h = refl
-all_ahead r (s ∷ rows) h = and_from (is_ahead r s) (every (is_ahead r) rows) (ahead_test r s h.0) (all_ahead r rows h.1)
+all_ahead r (s ∷ rows) h = and_from (is_ahead r s) (list_all (is_ahead r) rows) (ahead_test r s h.0) (all_ahead r rows h.1)
 
-ahead_all : (r : SpecRow) (rows : List SpecRow) → every (is_ahead r) rows ≡ true → AllOf (Ahead r) rows
+ahead_all : (r : SpecRow) (rows : List SpecRow) → list_all (is_ahead r) rows ≡ true → AllOf (Ahead r) rows
 ahead_all r [] h = tt
-ahead_all r (s ∷ rows) h = let p = and_parts (is_ahead r s) (every (is_ahead r) rows) h in (ahead_from r s p.0, ahead_all r rows p.1)
+ahead_all r (s ∷ rows) h = let p = and_parts (is_ahead r s) (list_all (is_ahead r) rows) h in (ahead_from r s p.0, ahead_all r rows p.1)
 
 pub listed_test : (rows : List SpecRow) → Listed rows → is_listed rows ≡ true
 listed_test [] h = refl
-listed_test (r ∷ rows) h = and_from (every (is_ahead r) rows) (is_listed rows) (all_ahead r rows h.0) (listed_test rows h.1)
+listed_test (r ∷ rows) h = and_from (list_all (is_ahead r) rows) (is_listed rows) (all_ahead r rows h.0) (listed_test rows h.1)
 
 listed_from : (rows : List SpecRow) → is_listed rows ≡ true → Listed rows
 listed_from [] h = tt
-listed_from (r ∷ rows) h = let p = and_parts (every (is_ahead r) rows) (is_listed rows) h in (ahead_all r rows p.0, listed_from rows p.1)
+listed_from (r ∷ rows) h = let p = and_parts (list_all (is_ahead r) rows) (is_listed rows) h in (ahead_all r rows p.0, listed_from rows p.1)
 
 -- ---- the rows of a table
 
@@ -101,7 +100,7 @@ module _ (rows : List Row) (start len : ℕ) (ks : Kinds) (within : start + len 
   table_rows = below (length rows) (omega arith) ∙ ap (λ j. map (meant ks.count) (take j (drop start rows))) (omega arith)
 
   -- rows that are good make an accepted table, known to be listed where they are
-  pub table_good : (ordered : Bool) → length rows ≤ most_stored → is_few (listed ks) ≡ true → every (good_row (listed ks)) (part_of ks start len rows) ≡ true →
+  pub table_good : (ordered : Bool) → length rows ≤ most_stored → is_few (listed ks) ≡ true → list_all (good_row (listed ks)) (part_of ks start len rows) ≡ true →
       (ordered ≡ true → is_listed (part_of ks start len rows) ≡ true) → TableOk rows start len ks ordered
   table_good ordered few_rows few good order =
       let n = length_firsts ks.count ks.at Number in
@@ -135,7 +134,7 @@ good_period ks r g =
     let p = and_parts _ _ q.0 in
     (ltb-true _ _ p.0, leb-true _ _ p.1)
 
-module _ (ks : List Kind) (xs list : List SpecRow) (good : every (good_row ks) xs ≡ true) (lists : Lists list (on xs)) where
+module _ (ks : List Kind) (xs list : List SpecRow) (good : list_all (good_row ks) xs ≡ true) (lists : Lists list (on xs)) where
   pub list_short : length list ≤ length xs
   list_short = fewest list xs lists.canonical (All-from_get_or Period xs no_spec (λ k lt. good_period ks (get_or xs k no_spec) (every_at (good_row ks) xs no_spec k good lt))) lists.sets
 
@@ -156,9 +155,9 @@ module _ (ks : List Kind) (xs list : List SpecRow) (good : every (good_row ks) x
   pub list_good : AllOf (λ r. good_row ks r ≡ true) list
   list_good = All-from_get_or (λ r. good_row ks r ≡ true) list no_spec list_fits
 
-pub every_all : {X : Type 0} (p : X → Bool) (xs : List X) → AllOf (λ x. p x ≡ true) xs → every p xs ≡ true
+pub every_all : {X : Type 0} (p : X → Bool) (xs : List X) → AllOf (λ x. p x ≡ true) xs → list_all p xs ≡ true
 every_all p [] h = refl
-every_all p (x ∷ xs) h = and_from (p x) (every p xs) h.0 (every_all p xs h.1)
+every_all p (x ∷ xs) h = and_from (p x) (list_all p xs) h.0 (every_all p xs h.1)
 
 -- what is stored means the list again
 pub stored_back : (ks : List Kind) (c : ℕ) (list : List SpecRow) → length ks ≡ c → c ≤ most_columns → AllOf (λ r. good_row ks r ≡ true) list → map (meant c) (map stored list) ≡ list

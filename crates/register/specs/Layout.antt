@@ -1,4 +1,5 @@
 -- How the entries of a directory share the rows of a register.
+use Rattle.std.specs.List.{list_all}
 use Rattle.std.specs.Prelude.{◌≡◌, ℕ, zero, suc, ◌+◌, ◌<◌, ◌≤◌, min, Bool, true, false, cond, ◌&&◌, ◌||◌, List, [], ◌∷◌, map, length, get_or, take, drop, ℤ, pos, negsuc, Some, None, Option, ◌==◌, ◌≢◌, nat_le, nat_lt, slice_index_or}
 use Rattle.std.specs.Cmp.Lexicographic.{slice_cmp}
 use Rattle.std.specs.Ordering.{is_lt, int_cmp}
@@ -7,7 +8,6 @@ use Rattle.relation.specs.declared.columns.Kinds.{Kinds}
 use Rattle.relation.specs.declared.kinds.Kind.{Kind}
 use Rattle.relation.specs.declared.kinds.Kind.TheVariants.{Number}
 use Rattle.relation.specs.Bounds.{most_columns, most_entries, most_stored}
-use Rattle.relation.specs.Lists.{every}
 use Rattle.relation.specs.Rows.{SpecRow, is_period}
 use Rattle.relation.specs.Sets.{equal}
 use Rattle.relation.specs.Stored.{listed, meant, blank_row}
@@ -76,7 +76,7 @@ is_zero (pos (suc n)) = false
 is_zero (negsuc n) = false
 
 abbrev pub is_blank : Row → Bool
-is_blank r = r.first == 0 && (r.end == 0 && every is_zero r.values)
+is_blank r = r.first == 0 && (r.end == 0 && list_all is_zero r.values)
 
 -- what is read past the end of a directory
 abbrev pub free : Entry
@@ -138,11 +138,11 @@ is_ahead r s = is_lt (slice_cmp int_cmp r.tuple s.tuple) || (equal r.tuple s.tup
 
 abbrev pub is_listed : List SpecRow → Bool
 is_listed [] = true
-is_listed (r ∷ rows) = every (is_ahead r) rows && is_listed rows
+is_listed (r ∷ rows) = list_all (is_ahead r) rows && is_listed rows
 
 -- one to six kinds, rows that may stand in a table of them, and in listing order where they are published
 abbrev pub good_part : Part → Bool
-good_part p = cond (is_free p.mark) true (is_few p.kinds && (every (good_row p.kinds) p.rows && cond (is_published p.mark) (is_listed p.rows) true))
+good_part p = cond (is_free p.mark) true (is_few p.kinds && (list_all (good_row p.kinds) p.rows && cond (is_published p.mark) (is_listed p.rows) true))
 
 abbrev pub Room : List Entry → List Row → Type 0
 Room es rs = total es ≤ capacity rs
@@ -168,7 +168,7 @@ Wide es = (k : ℕ) → (get_or es k free).kinds.count ≤ most_columns
 
 -- each entry in use is good
 abbrev pub Fitting : List Entry → List Row → Type 0
-Fitting es rs = every good_part (parts es rs) ≡ true
+Fitting es rs = list_all good_part (parts es rs) ≡ true
 
 pub record Sound (es : List Entry) (rs : List Row) : Type 0 where
   pub all : length es ≡ most_entries

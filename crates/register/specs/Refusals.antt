@@ -1,4 +1,5 @@
 -- When a call is refused, and for which reason: the first that applies, in the fixed order.
+use Rattle.std.specs.List.{list_all}
 use Rattle.std.specs.Prelude.{◌≡◌, ℕ, Bool, cond, not, ◌&&◌, List, ◌++◌, length, drop, pos, Some, None, Ok, Err, Option, Result, ◌==◌, nat_le, nat_lt}
 use Rattle.relation.specs.declared.rows.Row.{Row}
 use Rattle.relation.specs.declared.kinds.Kind.{Kind}
@@ -6,7 +7,6 @@ use Rattle.relation.specs.declared.refusals.Refusal.{Refusal}
 use Rattle.relation.specs.declared.refusals.Reason.{Reason}
 use Rattle.relation.specs.declared.refusals.Reason.TheVariants as no
 use Rattle.relation.specs.Bounds.{most_columns}
-use Rattle.relation.specs.Lists.{every}
 use Rattle.relation.specs.Rows.{is_period}
 use Rattle.relation.specs.Stored.{firsts, meant}
 use Rattle.relation.specs.Values.{word}
@@ -39,7 +39,7 @@ slip_fits number s slip = slip.register == number && drafted (held s slip.name.c
 
 -- every value past the first n is 0
 abbrev pub rest_zero : ℕ → Row → Bool
-rest_zero n row = every is_zero (drop n (firsts most_columns row.values (pos 0)))
+rest_zero n row = list_all is_zero (drop n (firsts most_columns row.values (pos 0)))
 
 -- why a row of some kinds may not stand in a relation of its own kinds
 abbrev pub row_no : List Kind → List Kind → Row → Option Reason

@@ -1,7 +1,7 @@
 // Work areas.
+ghost use Rattle.std.specs.List.{list_all};
 ghost use Rattle.std.specs.Prelude.{◌≡◌, ◌+◌, ◌≤◌, true, length};
 ghost use Rattle.relation.specs.Bounds.{most_stored};
-ghost use Rattle.relation.specs.Lists.{every};
 ghost use Rattle.relation.specs.Rows.{on as day_sets};
 ghost use Rattle.relation.specs.Stored.{blank_row, listed as kind_list};
 ghost use Rattle.collect.specs.Collects.{Collects};
@@ -32,7 +32,7 @@ pub fn coalesce_part(
     requires within { start + len ≤ length rows.now }
     requires places { length rows.now ≤ most_stored }
     requires few { is_few (kind_list kinds) ≡ true }
-    requires good { every (good_row (kind_list kinds)) (part_of kinds start len rows.now) ≡ true }
+    requires good { list_all (good_row (kind_list kinds)) (part_of kinds start len rows.now) ≡ true }
     ensures { Collects (work_no (length (part_of kinds start len rows.now)) work.old index.old) (day_sets (part_of kinds start len rows.now)) work.old index.old result work.new index.new }
 {
     let table = Table::new(rows, start, len, kinds, false);

@@ -1,4 +1,5 @@
 pub mod Every
+pub mod Shorts
 pub mod Spelled
 pub mod KindsTold
 pub mod ByteLoops
@@ -9,6 +10,6 @@ pub mod Held
 pub mod Clear
 pub mod Told
 pub mod Pigeons
-pub mod Few
+pub mod Fewest
 pub mod FromClear
 pub mod Tuples

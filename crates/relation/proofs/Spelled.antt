@@ -1,10 +1,10 @@
 -- Words and the numbers that they are held as: the digits of a word spell it again.
+use Rattle.std.specs.List.{list_all}
 use Rattle.std.proofs.Common.{◌≡◌, ℕ, zero, suc, ◌+◌, ◌*◌, ◌/◌, ◌%◌, ◌^◌, ◌<◌, ◌≤◌, Bool, true, false, cond, ◌&&◌, eqb, leb, List, [], ◌∷◌, length, ℤ, pos, negsuc, Some, None, sym, refl, ap, ◌∙◌, subst, mod-eq_of_lt, mul_assoc, pow-suc, arith}
 use native.Mathlib.Nat.{pow-succ', zero-div, mul-add-div_right, mul-add-mod_self_right}
 use lib.Arith.{digits_lt, digits_div}
 use Rattle.std.proofs.lemmas.Bool.{and_parts, and_from, leb-true, eqb-true, eq-eqb, ne_eqb, cond-true, cond-false}
 use Rattle.std.proofs.lemmas.Bool.Decides.{nat_tests}
-use Rattle.relation.specs.Lists.{every}
 use Rattle.relation.specs.Bounds.{word_bytes}
 use Rattle.relation.specs.Values.{word_byte, is_word, digits, word, lowest, front, spelling, Word, word_value, word_text, WordsInverse}
 
@@ -15,11 +15,11 @@ unit_pos : (k : ℕ) → 0 < 256 ^ k
 unit_pos zero = omega arith
 unit_pos (suc k) = omega (arith, pow-suc 256 k, unit_pos k)
 
-pub digits_below : (k : ℕ) (bs : List ℕ) → every word_byte bs ≡ true → digits k bs < 256 ^ k
+pub digits_below : (k : ℕ) (bs : List ℕ) → list_all word_byte bs ≡ true → digits k bs < 256 ^ k
 digits_below zero bs h = omega arith
 digits_below (suc k) [] h = unit_pos (suc k)
 digits_below (suc k) (b ∷ bs) h =
-    let p = and_parts (word_byte b) (every word_byte bs) h in
+    let p = and_parts (word_byte b) (list_all word_byte bs) h in
     let q = word_byte_bounds b p.0 in
     let s : b < 256 = omega arith in
     subst (λ (m : ℕ). b * 256 ^ k + digits k bs < m) (sym (pow-succ' 256 k)) (digits_lt s (digits_below k bs p.1))
@@ -36,13 +36,13 @@ lowest_high (suc k) q m =
     digit : (q * 256 * 256 ^ k + m) / 256 ^ k % 256 ≡ m / 256 ^ k % 256
     digit = ap (λ (x : ℕ). x % 256) (mul-add-div_right (unit_pos k) (q * 256) m) ∙ mul-add-mod_self_right q 256 (m / 256 ^ k)
 
-spelling_digits : (k : ℕ) (bs : List ℕ) → every word_byte bs ≡ true → length bs ≤ k → front (lowest k (digits k bs)) ≡ bs
+spelling_digits : (k : ℕ) (bs : List ℕ) → list_all word_byte bs ≡ true → length bs ≤ k → front (lowest k (digits k bs)) ≡ bs
 spelling_digits zero [] h l = refl
 spelling_digits zero (b ∷ bs) h l = absurd (omega arith)
 spelling_digits (suc k) [] h l =
     ap (λ (d : ℕ). cond (eqb (d % 256) 0) [] (d % 256 ∷ front (lowest k 0))) (zero-div (256 ^ k))
 spelling_digits (suc k) (b ∷ bs) h l =
-    let p = and_parts (word_byte b) (every word_byte bs) h in
+    let p = and_parts (word_byte b) (list_all word_byte bs) h in
     let q = word_byte_bounds b p.0 in
     let s : b < 256 = omega arith in
     let below = digits_below k bs p.1 in
@@ -55,12 +55,12 @@ spelling_digits (suc k) (b ∷ bs) h l =
 pub record Parts (bs : List ℕ) : Type 0 where
   pub some : 1 ≤ length bs
   pub few : length bs ≤ word_bytes
-  pub bytes : every word_byte bs ≡ true
+  pub bytes : list_all word_byte bs ≡ true
 
 pub word_parts : (bs : List ℕ) → is_word bs ≡ true → Parts bs
 word_parts bs h =
-    let p = and_parts (leb 1 (length bs)) (leb (length bs) word_bytes && every word_byte bs) h in
-    let q = and_parts (leb (length bs) word_bytes) (every word_byte bs) p.1 in
+    let p = and_parts (leb 1 (length bs)) (leb (length bs) word_bytes && list_all word_byte bs) h in
+    let q = and_parts (leb (length bs) word_bytes) (list_all word_byte bs) p.1 in
     record { some = leb-true 1 (length bs) p.0; few = leb-true (length bs) word_bytes q.0; bytes = q.1 }
 
 pub spelling_word : (bs : List ℕ) → is_word bs ≡ true → spelling (word bs) ≡ bs
@@ -70,7 +70,7 @@ spelling_word bs h = let p = word_parts bs h in spelling_digits word_bytes bs p.
 pub word_below : (bs : List ℕ) → is_word bs ≡ true → word bs < 2 ^ 63
 word_below [] h = absurd (omega (arith, (word_parts [] h).some))
 word_below (b ∷ bs) h =
-    let p = and_parts (word_byte b) (every word_byte bs) (word_parts (b ∷ bs) h).bytes in
+    let p = and_parts (word_byte b) (list_all word_byte bs) (word_parts (b ∷ bs) h).bytes in
     digits_lt (word_byte_bounds b p.0).1 (digits_below 7 bs p.1)
 
 -- ---- reading and writing

@@ -1,6 +1,6 @@
 pub mod Bounds
 pub mod Kinds
-pub mod Texts
+pub mod Few
 pub mod Values
 pub mod Refusals
 pub mod Lists

@@ -1,5 +1,5 @@
--- Words on lists: some element, each element, and each two elements in their order.
-use Rattle.std.specs.Prelude.{◌≡◌, Bool, true, ◌&&◌, ◌⊎◌, List, [], ◌∷◌, ◌≢◌}
+-- Words on lists: some element, and each two elements in their order.
+use Rattle.std.specs.Prelude.{◌≡◌, ◌⊎◌, List, [], ◌∷◌, ◌≢◌}
 use Rattle.std.specs.List.{AllByRecursion as AllOf}
 
 -- some element has P
@@ -18,8 +18,3 @@ Member xs x = Any (λ y. y ≡ x) xs
 -- no element stands twice
 abbrev pub Distinct : {X : Type 0} → List X → Type 0
 Distinct xs = Pairwise (λ x y. x ≢ y) xs
-
--- each element passes the test
-abbrev pub every : {X : Type 0} → (X → Bool) → List X → Bool
-every p [] = true
-every p (x ∷ xs) = p x && every p xs

@@ -1,8 +1,5 @@
--- What the stored forms mean: kinds as a list, a stored row as a tuple with its period, and the way back.
+-- What a stored row means: a tuple with its period, and the way back.
 use Rattle.std.specs.Prelude.{ℕ, zero, suc, List, [], ◌∷◌, pos}
-use Rattle.relation.specs.declared.kinds.Kind.{Kind}
-use Rattle.relation.specs.declared.kinds.Kind.TheVariants.{Number}
-use Rattle.relation.specs.declared.columns.Kinds.{Kinds}
 use Rattle.relation.specs.declared.rows.Row.{Row}
 use Rattle.relation.specs.Bounds.{most_columns}
 use Rattle.relation.specs.Rows.{SpecRow}
@@ -12,10 +9,6 @@ abbrev pub firsts : {X : Type 0} → ℕ → List X → X → List X
 firsts zero xs d = []
 firsts (suc n) [] d = d ∷ firsts n [] d
 firsts (suc n) (x ∷ xs) d = x ∷ firsts n xs d
-
--- the kinds of a relation, one for each column
-abbrev pub listed : Kinds → List Kind
-listed ks = firsts ks.count ks.at Number
 
 -- what a stored row of n columns means
 abbrev pub meant : ℕ → Row → SpecRow

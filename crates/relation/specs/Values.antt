@@ -1,9 +1,9 @@
 -- The values of the two kinds.
+use Rattle.std.specs.List.{list_all}
 use Rattle.std.specs.Prelude.{◌≡◌, ℕ, zero, suc, ◌+◌, ◌*◌, ◌/◌, ◌%◌, ◌^◌, Bool, true, cond, ◌&&◌, ◌||◌, ◌↔◌, List, [], ◌∷◌, length, ℤ, pos, negsuc, ◌≤ℤ◌, is_some, Some, None, codes, Option, ◌==◌, int_le, nat_le}
 use Rattle.std.specs.Char.{is_ascii_alphanumeric}
 use Rattle.relation.specs.declared.kinds.Kind.{Kind}
 use Rattle.relation.specs.declared.kinds.Kind.TheVariants as kind
-use Rattle.relation.specs.Lists.{every}
 use Rattle.relation.specs.Bounds.{largest_number, smallest_number, word_bytes}
 
 -- A–Z, a–z, 0–9, hyphen and underscore
@@ -11,7 +11,7 @@ abbrev pub word_byte : ℕ → Bool
 word_byte b = is_ascii_alphanumeric b || (b == 45 || b == 95)
 
 abbrev pub is_word : List ℕ → Bool
-is_word bs = nat_le 1 (length bs) && (nat_le (length bs) word_bytes && every word_byte bs)
+is_word bs = nat_le 1 (length bs) && (nat_le (length bs) word_bytes && list_all word_byte bs)
 
 -- the bytes are digits in base 256, the first highest, then zeros up to n of them
 abbrev pub digits : ℕ → List ℕ → ℕ

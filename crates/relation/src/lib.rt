@@ -5,6 +5,7 @@ pub mod bounds;
 pub mod columns;
 pub mod conditions;
 pub mod days;
+pub mod few;
 pub mod kinds;
 pub mod refusals;
 pub mod rows;

@@ -83,6 +83,14 @@ impl Refusal {
     }
 }
 
+impl From<Reason> for Refusal {
+    ghost from_gives = { λ reason refusal. refusal ≡ plain reason };
+
+    fn from(reason: Reason) -> Refusal {
+        Refusal::plain(reason)
+    }
+}
+
 impl fmt::Display for Refusal {
     fn fmt<W: fmt::Write>(&self, f: &mut fmt::Formatter<W>) -> fmt::Result {
         let number = self.reason.number();

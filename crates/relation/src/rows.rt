@@ -28,10 +28,9 @@ impl Row {
     pub fn trimmed(&self, columns: usize) -> Row
         ensures { result ≡ stored (meant columns self.now) }
     {
+        let kept = columns.min(MOST_COLUMNS);
         let mut values = [0; 6];
-        for c in 0..columns.min(MOST_COLUMNS) {
-            values[c] = self.values[c];
-        }
+        values[..kept].copy_from_slice(&self.values[..kept]);
         Row {
             first: self.first,
             end: self.end,

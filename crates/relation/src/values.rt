@@ -1,9 +1,9 @@
 // Values: the numbers of kind n, and the words of kind w, held as numbers.
+ghost use Rattle.std.specs.List.{list_all};
 ghost use Rattle.std.specs.Prelude.{◌≡◌, length};
 ghost use Rattle.std.specs.Option.{option_map};
 ghost use Rattle.relation.specs.Kinds.{SameKind};
-ghost use Rattle.relation.specs.Lists.{every};
-ghost use Rattle.relation.specs.Texts.{text_bytes};
+ghost use Rattle.relation.specs.Few.{items};
 ghost use Rattle.relation.specs.Values.{word_byte, is_word, front, word_value, word_text, in_kind, KindsTold, WordsInverse, WordA};
 
 use crate::bounds::{LARGEST_NUMBER, WORD_BYTES};
@@ -19,14 +19,9 @@ fn is_word_byte(b: u8) -> bool
 
 // Whether each byte may stand in a word.
 fn all_word_bytes(bytes: &[u8]) -> bool
-    ensures { result ≡ every word_byte bytes.now }
+    ensures { result ≡ list_all word_byte bytes.now }
 {
-    for b in bytes {
-        if !is_word_byte(*b) {
-            return false;
-        }
-    }
-    true
+    bytes.iter().all(|b| is_word_byte(*b))
 }
 
 // Whether the bytes are a word.
@@ -44,7 +39,7 @@ pub fn word_value(bytes: &[u8]) -> Option<i64>
         return None;
     }
     let mut padded = [0; WORD_BYTES];
-    padded[0..bytes.len()].copy_from_slice(bytes);
+    padded[..bytes.len()].copy_from_slice(bytes);
     Some(i64::from_be_bytes(padded))
 }
 
@@ -52,32 +47,19 @@ pub fn word_value(bytes: &[u8]) -> Option<i64>
 fn before_zero(bytes: &[u8]) -> usize
     ensures { result ≡ length (front bytes.now) }
 {
-    for (i, b) in bytes.iter().enumerate() {
-        if *b == 0 {
-            return i;
-        }
-    }
-    bytes.len()
+    bytes.iter().position(|b| *b == 0).unwrap_or(bytes.len())
 }
 
 // The bytes of the word that the value is; none where it is no word's.
 pub fn word_text(value: i64) -> Option<WordText>
-    ensures { option_map text_bytes result ≡ word_text value }
+    ensures { option_map items result ≡ word_text value }
 {
     let bytes = value.to_be_bytes();
-    let len = before_zero(&bytes);
-    if word_value(&bytes[0..len]) == Some(value) {
-        Some(WordText { bytes, len })
+    let text = &bytes[..before_zero(&bytes)];
+    if word_value(text) == Some(value) {
+        WordText::from_slice(text, 0)
     } else {
         None
-    }
-}
-
-impl WordText {
-    pub fn as_bytes(&self) -> &[u8]
-        ensures { result.now ≡ text_bytes self.now }
-    {
-        &self.bytes[0..self.len]
     }
 }
 

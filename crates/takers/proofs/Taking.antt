@@ -1,4 +1,5 @@
 -- What the takers read is written there, and what is written there they read.
+use Rattle.std.specs.List.{list_all}
 use Rattle.std.proofs.Common.{◌≡◌, ℕ, ◌≤◌, true, cond, ◌&&◌, leb, List, [], ◌∷◌, map, length, ℤ, is_some, Some, None, codes, Option, sym, refl, ap, ◌∙◌, subst, arith}
 use Rattle.std.proofs.lemmas.List.{length-map}
 use Rattle.std.proofs.lemmas.Bool.{cond-true, and_parts, and_from, leb-true, le-leb, true≢false}
@@ -7,7 +8,6 @@ use Rattle.relation.specs.declared.kinds.Kind.{Kind}
 use Rattle.relation.specs.declared.kinds.Kind.TheVariants as kind
 use Rattle.relation.specs.declared.columns.Kinds.{Kinds}
 use Rattle.relation.specs.Bounds.{most_columns}
-use Rattle.relation.specs.Lists.{every}
 use Rattle.words.specs.declared.tokens.Position.{Position}
 use Rattle.words.specs.declared.tokens.Position.TheVariants as position
 use Rattle.relation.specs.declared.conditions.Sign.{Sign}
@@ -168,7 +168,7 @@ equals_take on = then_is (take_sign (codes "=" ∷ on)) (λ s. cond (is_equal s.
 kind_letter : (b : ℕ) → kind_byte b ≡ true → b ≡ letter (kind_of b)
 kind_letter b e = grind (arith, nat_tests)
 
-letters : (w : Text) → every kind_byte w ≡ true → w ≡ map letter (map kind_of w)
+letters : (w : Text) → list_all kind_byte w ≡ true → w ≡ map letter (map kind_of w)
 letters [] e = refl
 letters (b ∷ w) e = let p = and_parts (kind_byte b) _ e in λ i. kind_letter b p.0 i ∷ letters w p.1 i
 
@@ -179,7 +179,7 @@ letter_kind : (k : Kind) → (kind_byte (letter k) ≡ true) × (kind_of (letter
 letter_kind kind.Number = (refl, refl)
 letter_kind kind.Word = (refl, refl)
 
-all_letters : (ks : List Kind) → (every kind_byte (map letter ks) ≡ true) × (map kind_of (map letter ks) ≡ ks)
+all_letters : (ks : List Kind) → (list_all kind_byte (map letter ks) ≡ true) × (map kind_of (map letter ks) ≡ ks)
 all_letters [] = (refl, refl)
 all_letters (k ∷ ks) = let h = letter_kind k in let r = all_letters ks in (and_from _ _ h.0 r.0, λ i. h.1 i ∷ r.1 i)
 

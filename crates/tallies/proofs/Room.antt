@@ -13,7 +13,7 @@ use Rattle.tallies.specs.Tallies.{tally, Tallied}
 use Rattle.tallies.specs.TallyTheorems as theorems
 use Rattle.relation.proofs.Held.{In, day_set}
 use Rattle.relation.proofs.Clear.{apart}
-use Rattle.relation.proofs.Few.{Touchless}
+use Rattle.relation.proofs.Fewest.{Touchless}
 use Rattle.relation.proofs.Pigeons.{all_both, any_with, any_map, no_fewer}
 use Rattle.relation.proofs.TupleSets.{equal_decides}
 use Rattle.tallies.proofs.Members.{any_left, any_right}

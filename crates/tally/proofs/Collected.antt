@@ -1,7 +1,7 @@
 -- What is known of a source's collected list: it is not longer than the source, and its rows keep to the source's kinds.
 use Rattle.std.proofs.Common.{◌≡◌, ℕ, zero, suc, ◌-◌, ◌<◌, ◌≤◌, Bool, true, ◌&&◌, ltb, List, [], ◌∷◌, map, length, get_or, take, pos, is_some, Some, None, Option, sym, refl, ap, ◌∙◌, subst, arith}
 use lib.ListN.{length-map}
-use Rattle.std.specs.List.{AllByRecursion as AllOf}
+use Rattle.std.specs.List.{list_all, AllByRecursion as AllOf}
 use Rattle.std.proofs.ByRecursion.{All-append, All-get_or, All-from_get_or}
 use Rattle.std.proofs.lemmas.List.{get_or-map, get_or-take, take_at, take-take}
 use Rattle.std.proofs.lemmas.Bool.{and_parts, ltb-true, false≢true}
@@ -9,14 +9,13 @@ use Rattle.relation.specs.declared.kinds.Kind.{Kind}
 use Rattle.relation.specs.declared.kinds.Kind.TheVariants.{Number, Word}
 use Rattle.relation.specs.declared.rows.Row.{Row}
 use Rattle.relation.specs.Bounds.{most_columns}
-use Rattle.relation.specs.Lists.{every}
 use Rattle.relation.specs.Sets.{Tuple, TupleSet, column}
 use Rattle.relation.specs.Rows.{SpecRow, Period, Holds, Lists}
 use Rattle.relation.specs.Stored.{stored}
 use Rattle.relation.specs.Values as values
 use Rattle.relation.specs.Values.{in_kind}
 use Rattle.relation.proofs.Every.{every_at}
-use Rattle.relation.proofs.Few.{fewest}
+use Rattle.relation.proofs.Fewest.{fewest}
 use Rattle.relation.proofs.Held as held
 use Rattle.relation.proofs.KindsTold.{kinds_told}
 use Rattle.source.specs.Meaning.{Meaning, Sound, nth, cell, kind_of, fits, filled?, rows_below, rows_of, day_set}
@@ -65,20 +64,20 @@ module _ (m : Meaning) (sound : Sound m) (w : Tally) (by : List ℕ) (fit : fitt
   abbrev there : ℕ → Bool
   there c = is_some (kind_of m c)
 
-  later : (every there by && measurable m w) ≡ true
-  later = (and_parts (ltb (length by) most_columns) (every there by && measurable m w) fit).1
+  later : (list_all there by && measurable m w) ≡ true
+  later = (and_parts (ltb (length by) most_columns) (list_all there by && measurable m w) fit).1
 
   pub few_columns : length by < most_columns
-  few_columns = ltb-true (length by) most_columns (and_parts (ltb (length by) most_columns) (every there by && measurable m w) fit).0
+  few_columns = ltb-true (length by) most_columns (and_parts (ltb (length by) most_columns) (list_all there by && measurable m w) fit).0
 
   in_row : (c : ℕ) → is_some (kind_of m c) ≡ true → c ≤ most_columns
   in_row c h = let l = cell_within m.kinds c h in omega (arith, sound.few_kinds)
 
   pub columns : AllOf (λ c. c ≤ most_columns) by
-  columns = All-from_get_or (λ c. c ≤ most_columns) by 0 (λ i lt. in_row (get_or by i 0) (every_at there by 0 i (and_parts (every there by) (measurable m w) later).0 lt))
+  columns = All-from_get_or (λ c. c ≤ most_columns) by 0 (λ i lt. in_row (get_or by i 0) (every_at there by 0 i (and_parts (list_all there by) (measurable m w) later).0 lt))
 
   is_measurable : measurable m w ≡ true
-  is_measurable = (and_parts (every there by) (measurable m w) later).1
+  is_measurable = (and_parts (list_all there by) (measurable m w) later).1
 
   narrow_if : (v : Tally) → measurable m v ≡ true → Narrow v
   narrow_if Count h = tt

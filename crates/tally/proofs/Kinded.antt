@@ -1,11 +1,12 @@
 -- The tallied tuples keep to the kinds of the result.
+use Rattle.std.specs.List.{list_all}
 use Rattle.std.proofs.Common.{◌≡◌, ℕ, zero, suc, ◌+◌, ◌-◌, ◌<◌, ◌≤◌, Bool, true, false, cond, ◌&&◌, ◌⊎◌, List, [], ◌∷◌, ◌++◌, map, length, get_or, ℤ, pos, is_some, filter, sym, refl, ◌∙◌, subst, inl, inr, arith}
 use Rattle.std.proofs.lemmas.Int.{ints}
 use Rattle.std.proofs.lemmas.Bool.{and_parts, and_from, cases_Bool, false≢true}
 use Rattle.relation.specs.declared.kinds.Kind.{Kind}
 use Rattle.relation.specs.declared.kinds.Kind.TheVariants as kind
 use Rattle.relation.specs.Bounds.{most_work}
-use Rattle.relation.specs.Lists.{Member, every}
+use Rattle.relation.specs.Lists.{Member}
 use Rattle.relation.specs.Operations.{picked}
 use Rattle.relation.specs.Sets.{Tuple, TupleSet, column, equal, has}
 use Rattle.relation.specs.Rows.{SpecRow, Day, holds, on}
@@ -83,10 +84,10 @@ module _ (m : Meaning) (sound : Sound m) (d : ℕ) (day : Day d) where
       let high = cell_within m.kinds c h in
       in_kind_nth m.kinds t (c - 1) f (omega arith)
 
-  picked_fit : (by : List ℕ) (t : Tuple) → fits m.kinds t ≡ true → every (λ c. is_some (kind_of m c)) by ≡ true → fits (map (kind_at m) by) (picked by t) ≡ true
+  picked_fit : (by : List ℕ) (t : Tuple) → fits m.kinds t ≡ true → list_all (λ c. is_some (kind_of m c)) by ≡ true → fits (map (kind_at m) by) (picked by t) ≡ true
   picked_fit [] t f h = refl
   picked_fit (c ∷ by) t f h =
-      let p = and_parts (is_some (kind_of m c)) (every (λ c. is_some (kind_of m c)) by) h in
+      let p = and_parts (is_some (kind_of m c)) (list_all (λ c. is_some (kind_of m c)) by) h in
       and_from (in_kind (kind_at m c) (column c t)) _ (column_in_kind t c f p.0) (picked_fit by t f p.1)
 
   module _ (by : List ℕ) (t : Tuple) (i : Member (day_set m d) t) where
@@ -118,8 +119,8 @@ module _ (m : Meaning) (sound : Sound m) (d : ℕ) (day : Day d) where
 
 pub tallied_fit : TalliedFit
 tallied_fit m w by sound fit few inside d day u i =
-    let later = (and_parts _ (every (λ c. is_some (kind_of m c)) by && measurable m w) fit).1 in
-    let parts = and_parts (every (λ c. is_some (kind_of m c)) by) (measurable m w) later in
+    let later = (and_parts _ (list_all (λ c. is_some (kind_of m c)) by && measurable m w) fit).1 in
+    let parts = and_parts (list_all (λ c. is_some (kind_of m c)) by) (measurable m w) later in
     let g = from_map (λ t. picked by t ++ (value w t (group by (day_set m d) t) ∷ [])) (day_set m d) u i in
     let t = g.0 in
     subst (λ s. fits (tallied_kinds m w by) s ≡ true) g.1.1

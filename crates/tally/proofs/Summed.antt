@@ -1,11 +1,11 @@
 -- The sums of the result rows lie outside kind n exactly where those of some day do.
+use Rattle.std.specs.List.{list_all}
 use Rattle.std.proofs.Common.{◌≡◌, ℕ, suc, ◌+◌, ◌<◌, Bool, true, false, ◌&&◌, List, [], ◌∷◌, ◌++◌, map, length, get_or, ℤ, pos, sym, refl, ap, ◌∙◌, arith}
 use lib.ListN.{length-map}
 use Rattle.std.proofs.lemmas.List.{get_or_push}
 use Rattle.std.proofs.lemmas.Bool.{false≢true, true≢false}
 use Rattle.relation.specs.declared.kinds.Kind.TheVariants as kind
 use Rattle.relation.specs.declared.rows.Row.{Row}
-use Rattle.relation.specs.Lists.{every}
 use Rattle.relation.specs.Operations.{picked}
 use Rattle.relation.specs.Sets.{Tuple, TupleSet, Same, column}
 use Rattle.relation.specs.Rows.{Day, Period, Holds, on}
@@ -28,11 +28,11 @@ use Rattle.tally.proofs.Measuring.{get_d_firsts}
 use Rattle.tally.proofs.DaySets.{any_to_map}
 
 -- some element fails the test
-not_every : {X : Type 0} (p : X → Bool) (xs : List X) (d : X) → every p xs ≡ false → (k : ℕ) × ((k < length xs) × (p (get_or xs k d) ≡ false))
+not_every : {X : Type 0} (p : X → Bool) (xs : List X) (d : X) → list_all p xs ≡ false → (k : ℕ) × ((k < length xs) × (p (get_or xs k d) ≡ false))
 not_every p [] d h = absurd (true≢false h)
 not_every p (x ∷ xs) d h = step (p x) refl h (not_every p xs d)
   where
-    step : (b : Bool) → p x ≡ b → (b && every p xs) ≡ false → (every p xs ≡ false → (k : ℕ) × ((k < length xs) × (p (get_or xs k d) ≡ false))) → (k : ℕ) × ((k < suc (length xs)) × (p (get_or (x ∷ xs) k d) ≡ false))
+    step : (b : Bool) → p x ≡ b → (b && list_all p xs) ≡ false → (list_all p xs ≡ false → (k : ℕ) × ((k < length xs) × (p (get_or xs k d) ≡ false))) → (k : ℕ) × ((k < suc (length xs)) × (p (get_or (x ∷ xs) k d) ≡ false))
     step true e f more = let s = more f in (suc s.0, (omega (arith, s.1.0), s.1.1))
     step false e f more = (0, (omega arith, e))
 
@@ -51,7 +51,7 @@ module _ (by : List ℕ) (f : ℕ → TupleSet) (made : List Row) (periods : (k 
     abbrev sum : ℕ → Tuple → ℤ
     sum d t = tallies.value (Sum c) t (group by (f d) t)
 
-    exceeding : every (λ w. in_kind kind.Number (value (length by) w)) made ≡ false → Exceeds c by f
+    exceeding : list_all (λ w. in_kind kind.Number (value (length by) w)) made ≡ false → Exceeds c by f
     exceeding h =
         let s = not_every (λ w. in_kind kind.Number (value (length by) w)) made no_row h in
         let k = s.0 in
@@ -69,7 +69,7 @@ module _ (by : List ℕ) (f : ℕ → TupleSet) (made : List Row) (periods : (k 
         found k lt d h = any_to_map (meant wide) (λ x. (x.tuple ≡ firsts wide (get_or made k no_row).values (pos 0)) × Holds x d) made
             (any_from_index (λ x. ((meant wide x).tuple ≡ firsts wide (get_or made k no_row).values (pos 0)) × Holds (meant wide x) d) made no_row k lt (refl, h))
 
-    not_exceeding : every (λ w. in_kind kind.Number (value (length by) w)) made ≡ true → Exceeds c by f → ⊥
+    not_exceeding : list_all (λ w. in_kind kind.Number (value (length by) w)) made ≡ true → Exceeds c by f → ⊥
     not_exceeding h e =
         let d = e.0 in
         let t = e.1.1.0 in

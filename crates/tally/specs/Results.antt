@@ -1,9 +1,9 @@
 -- What the result rows of tallied rows say.
+use Rattle.std.specs.List.{list_all}
 use Rattle.std.specs.Prelude.{◌≡◌, ℕ, ◌<◌, ◌≤◌, Bool, true, ◌&&◌, List, length, filter, slice_index_or}
 use Rattle.relation.specs.declared.rows.Row.{Row}
 use Rattle.relation.specs.declared.kinds.Kind.TheVariants.{Number}
 use Rattle.relation.specs.Bounds.{most_columns}
-use Rattle.relation.specs.Lists.{every}
 use Rattle.relation.specs.Sets.{equal}
 use Rattle.relation.specs.Rows.{Period, Holds, holds}
 use Rattle.relation.specs.Operations.{picked}
@@ -38,6 +38,6 @@ pub record Results (m : Tally) (by : List ℕ) (rows made : List Row) : Type 0 w
 -- what is summed is a number, in each row at an index
 abbrev pub sums_fit : Tally → ℕ → List Row → Bool
 sums_fit Count at rows = true
-sums_fit (Sum c) at rows = every (λ w. in_kind Number (value at w)) rows
+sums_fit (Sum c) at rows = list_all (λ w. in_kind Number (value at w)) rows
 sums_fit (Min c) at rows = true
 sums_fit (Max c) at rows = true

@@ -1,4 +1,5 @@
 -- What tallying a source leaves and answers.
+use Rattle.std.specs.List.{list_all}
 use Rattle.std.specs.Prelude.{◌≡◌, ℕ, ◌*◌, Bool, true, false, cond, not, ◌&&◌, ◌⊎◌, List, length, take, drop, replicate, is_some, Some, None, Ok, Err, Option, Result, nat_le, nat_lt}
 use Rattle.relation.specs.declared.kinds.Kind.{Kind}
 use Rattle.relation.specs.declared.kinds.Kind.TheVariants.{Number, Word}
@@ -7,7 +8,6 @@ use Rattle.relation.specs.declared.refusals.Reason.TheVariants.{Misfit, ShortWor
 use Rattle.relation.specs.declared.refusals.Refusal.{Refusal}
 use Rattle.relation.specs.declared.rows.Row.{Row}
 use Rattle.relation.specs.Bounds.{most_columns}
-use Rattle.relation.specs.Lists.{every}
 use Rattle.relation.specs.Refusals.{plain, plain?}
 use Rattle.relation.specs.Sets.{TupleSet}
 use Rattle.relation.specs.Stored.{blank_row}
@@ -33,7 +33,7 @@ measurable m (Max c) = is_some (kind_of m c)
 
 -- few enough grouping columns, each of them there, and the tally's column as well
 abbrev pub fitting : Meaning → Tally → List ℕ → Bool
-fitting m w by = nat_lt (length by) most_columns && (every (λ c. is_some (kind_of m c)) by && measurable m w)
+fitting m w by = nat_lt (length by) most_columns && (list_all (λ c. is_some (kind_of m c)) by && measurable m w)
 
 -- both areas have three entries for each filled place
 abbrev pub roomy : Meaning → List Row → List Node → Bool

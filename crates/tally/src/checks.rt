@@ -1,6 +1,6 @@
 // Whether a tally fits the columns of a source.
+ghost use Rattle.std.specs.List.{list_all};
 ghost use Rattle.std.specs.Prelude.{◌≡◌, is_some};
-ghost use Rattle.relation.specs.Lists.{every};
 ghost use Rattle.source.specs.Meaning.{kind_of};
 ghost use Rattle.tally.specs.Tallying.{measurable, fitting};
 
@@ -12,7 +12,7 @@ use tallies::rules::Tally;
 // Whether the source has each of the columns.
 fn has_columns<S: Source>(source: &S, by: &[usize]) -> bool
     requires { S.Source.accepted source.now }
-    ensures { result ≡ every (λ c. is_some (kind_of (S.Source.meaning source.now) c)) by.now }
+    ensures { result ≡ list_all (λ c. is_some (kind_of (S.Source.meaning source.now) c)) by.now }
 {
     by.iter().all(|c| source.kind(*c).is_some())
 }

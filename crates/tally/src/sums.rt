@@ -1,7 +1,7 @@
 // Whether the sums of a tally are numbers.
+ghost use Rattle.std.specs.List.{list_all};
 ghost use Rattle.std.specs.Prelude.{◌≡◌, ◌<◌};
 ghost use Rattle.relation.specs.Bounds.{most_columns};
-ghost use Rattle.relation.specs.Lists.{every};
 ghost use Rattle.relation.specs.Values.{in_kind};
 ghost use Rattle.relation.specs.declared.kinds.Kind.TheVariants.{Number};
 ghost use Rattle.cuts.specs.Amounts.{value};
@@ -14,7 +14,7 @@ use tallies::rules::Tally;
 // Whether each row has a value of kind n at an index.
 fn all_numbers(rows: &[Row], at: usize) -> bool
     requires { at < most_columns }
-    ensures { result ≡ every (λ w. in_kind Number (value at w)) rows.now }
+    ensures { result ≡ list_all (λ w. in_kind Number (value at w)) rows.now }
 {
     rows.iter().all(|row| Kind::Number.holds(row.values[at]))
 }

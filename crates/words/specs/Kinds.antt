@@ -1,11 +1,11 @@
 -- Kinds, written as letters.
+use Rattle.std.specs.List.{list_all}
 use Rattle.std.specs.Prelude.{ℕ, Bool, cond, ◌&&◌, ◌||◌, List, map, length, Some, None, Option, ◌==◌, nat_le}
 use Rattle.relation.specs.declared.kinds.Kind.{Kind}
 use Rattle.relation.specs.declared.kinds.Kind.TheVariants.{Number, Word}
 use Rattle.relation.specs.declared.columns.Kinds.{Kinds}
 use Rattle.relation.specs.Bounds.{most_columns}
 use Rattle.relation.specs.Stored.{firsts}
-use Rattle.relation.specs.Lists.{every}
 
 -- n or w
 abbrev pub kind_byte : ℕ → Bool
@@ -16,7 +16,7 @@ kind_of b = cond (b == 119) Word Number
 
 -- one or more letters
 abbrev pub is_kinds : List ℕ → Bool
-is_kinds w = nat_le 1 (length w) && every kind_byte w
+is_kinds w = nat_le 1 (length w) && list_all kind_byte w
 
 -- how kinds are stored
 abbrev pub kept : List Kind → Kinds

@@ -1,8 +1,8 @@
 -- Names, and the words that are reserved.
+use Rattle.std.specs.List.{list_all}
 use Rattle.std.specs.Prelude.{ℕ, Bool, cond, not, ◌&&◌, ◌||◌, List, [], ◌∷◌, length, is_some, Some, None, codes, Option, nat_le, slice_index}
 use Rattle.std.specs.Char.{is_ascii_digit, is_ascii_lowercase}
 use Rattle.std.specs.Str.{bytes_eq}
-use Rattle.relation.specs.Lists.{every}
 use Rattle.words.specs.declared.names.Reserved.{Reserved}
 use Rattle.words.specs.declared.names.Reserved.TheVariants.{Base, During, Where, On, Of, By}
 
@@ -23,4 +23,4 @@ name_byte b = is_ascii_lowercase b || is_ascii_digit b
 
 -- 1 to 8 of a–z and 0–9, a letter first, and no reserved word
 abbrev pub is_name : List ℕ → Bool
-is_name w = nat_le 1 (length w) && (nat_le (length w) 8 && (is_ascii_lowercase (slice_index w 0) && (every name_byte w && not (is_some (reserved w)))))
+is_name w = nat_le 1 (length w) && (nat_le (length w) 8 && (is_ascii_lowercase (slice_index w 0) && (list_all name_byte w && not (is_some (reserved w)))))

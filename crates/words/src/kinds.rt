@@ -1,6 +1,6 @@
 // Kinds, written as letters: n for numbers, w for words.
+ghost use Rattle.std.specs.List.{list_all};
 ghost use Rattle.std.specs.Prelude.{◌≡◌};
-ghost use Rattle.relation.specs.Lists.{every};
 ghost use Rattle.words.specs.Kinds.{kind_byte, kind_of, is_kinds, kinds_of};
 
 use relation::bounds::MOST_COLUMNS;
@@ -17,7 +17,7 @@ fn is_kind_byte(b: u8) -> bool
 }
 
 fn kind_bytes(word: &[u8]) -> bool
-    ensures { result ≡ every kind_byte word.now }
+    ensures { result ≡ list_all kind_byte word.now }
 {
     for b in word {
         if !is_kind_byte(*b) {

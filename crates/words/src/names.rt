@@ -1,6 +1,6 @@
 // Names, and the words that are none since a query's line gives them a meaning.
+ghost use Rattle.std.specs.List.{list_all};
 ghost use Rattle.std.specs.Prelude.{◌≡◌};
-ghost use Rattle.relation.specs.Lists.{every};
 ghost use Rattle.words.specs.Name.{reserved as reserved_in, name_byte, is_name};
 
 use std::str::from_utf8;
@@ -49,7 +49,7 @@ fn is_name_byte(b: u8) -> bool
 }
 
 fn name_bytes(word: &[u8]) -> bool
-    ensures { result ≡ every name_byte word.now }
+    ensures { result ≡ list_all name_byte word.now }
 {
     for b in word {
         if !is_name_byte(*b) {

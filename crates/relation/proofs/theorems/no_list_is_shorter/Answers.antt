@@ -1,4 +1,4 @@
-use Rattle.relation.proofs.Few.{fewest}
+use Rattle.relation.proofs.Fewest.{fewest}
 use Rattle.relation.proofs.theorems.no_list_is_shorter.Goals as goal
 
 pub returns : goal.returns

@@ -1,6 +1,6 @@
+use Rattle.std.specs.List.{list_all}
 use Rattle.std.proofs.Common.{◌<◌, List, map, length, get_or, ap, ◌∙◌, subst, arith}
 use Rattle.relation.specs.declared.rows.Row.{Row}
-use Rattle.relation.specs.Lists.{every}
 use Rattle.relation.specs.Rows.{on}
 use Rattle.relation.specs.Stored.{listed, meant}
 use Rattle.collect.specs.Collects.{Collects}
@@ -26,7 +26,7 @@ coalesce_part-requires c =
       within = p.0;
       places = p.1;
       few = g.few;
-      good = ap (λ (x : List Row). every (good_row (listed e.kinds)) (map (meant e.kinds.count) x)) p.2 ∙ g.rows_good;
+      good = ap (λ (x : List Row). list_all (good_row (listed e.kinds)) (map (meant e.kinds.count) x)) p.2 ∙ g.rows_good;
     }
 
 pub returns : goal.returns
