@@ -52,7 +52,7 @@ pub fn tally_list(
     let made = tally_groups(listed, out, index, by, what);
     if !sums_fit(what, &out[..made], by.len()) {
         blank_all(rows, index);
-        return Err(Refusal::plain(Reason::SumOutside));
+        return Err(Reason::SumOutside.into());
     }
     rows.copy_within(n..n + made, 0);
     Ok(list_rows(rows, index, made))
