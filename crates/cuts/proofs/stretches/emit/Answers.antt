@@ -6,8 +6,8 @@ use Rattle.collect.specs.Areas.{no_row}
 use Rattle.cuts.specs.Amounts.{value}
 use Rattle.cuts.specs.Groups.{tuple_by}
 use Rattle.cuts.proofs.Emitting.{emitting_none, emitting_skip, emitting_one, emitting_all, met}
-use Rattle.cuts.proofs.stretches.emit_by.Goals as goal
-use Rattle.cuts.proofs.stretches.emit_by.Goals.{then-cut-gt0+then-cut-next, else-cut-gt0}
+use Rattle.cuts.proofs.stretches.emit.Goals as goal
+use Rattle.cuts.proofs.stretches.emit.Goals.{then-cut-gt0+then-cut-next, else-cut-gt0}
 
 pub loop-i-init : goal.loop-i-init
 loop-i-init c = emitting_none _ _ _
