@@ -102,12 +102,7 @@ impl<S: Source> Source for Select<S> {
     }
 
     fn row(&self, k: usize) -> Option<Row> {
-        let row = self.source.row(k)?;
-        if self.keeps(&row.values) {
-            Some(row)
-        } else {
-            None
-        }
+        self.source.row(k).filter(|row| self.keeps(&row.values))
     }
 
     fn seek(&self, k: usize, lead: &[i64]) -> usize {

@@ -67,11 +67,7 @@ impl<S: Source> Source for Window<S> {
         let first = self.first.max(row.first);
         let end = self.end.min(row.end);
         let values = row.values;
-        if first < end {
-            Some(Row { first, end, values })
-        } else {
-            None
-        }
+        (first < end).then_some(Row { first, end, values })
     }
 
     fn seek(&self, k: usize, lead: &[i64]) -> usize {
