@@ -1,6 +1,6 @@
 -- Columns picked from kinds, tuples and stored rows.
-use Rattle.std.specs.List.{list_all, enumerate_from, AllWithin, HoldsAt}
-use Rattle.std.specs.Option.{MatchOption, unwrap_or}
+use Rattle.std.specs.List.{slice_get, list_all, enumerate_from, AllWithin, HoldsAt}
+use Rattle.std.specs.Option.{MatchOption, unwrap_or, option_map}
 use Rattle.std.proofs.lemmas.List.FromFn.{length-enumerate_from, get_or-enumerate_from}
 use Rattle.std.proofs.Common.{◌≡◌, ℕ, zero, suc, ◌+◌, ◌-◌, ◌<◌, ◌≤◌, true, false, leb, ◌≢◌, List, [], ◌∷◌, ◌++◌, map, length, get_or, take, set, pos, Some, None, Option, sym, refl, ap, ◌∙◌, subst, ap₂, ⊎_elim, arith}
 use Rattle.std.proofs.lemmas.List.{length-take, length-take-le, get_or-take, get_or-map, length-map, map-append, take_more}
@@ -13,8 +13,9 @@ use Rattle.relation.specs.Sets.{Tuple, column}
 use Rattle.relation.specs.Stored.{firsts, stored}
 use Rattle.relation.specs.Operations.{picked}
 use Rattle.relation.proofs.Every.{every_at}
-use Rattle.source.specs.Meaning.{Meaning, Sound, NoneLed, Begins, nth, cell, value?, row?, kind_of, value_of, row_of}
-use Rattle.source.proofs.Cells.{nth_at, fits_length}
+use Rattle.source.specs.Meaning.{Meaning, Sound, NoneLed, Begins, cell, value?, row?, kind_of, value_of, row_of}
+use Rattle.std.proofs.lemmas.Option.{slice_get-get_or, slice_get-map}
+use Rattle.source.proofs.Cells.{fits_length}
 use Rattle.layers.specs.Columns.{is_column, are_columns, InPlace}
 use Rattle.layers.specs.Projects.{picked_row, projected, no_project}
 use Rattle.layers.specs.Soundness.{is_column_lem, Chosen, are_columns_lem}
@@ -80,10 +81,10 @@ pick_more vs cs i lt few =
 
 cell_in : {X : Type 0} (xs : List X) (c : ℕ) (d : X) → 1 ≤ c → c ≤ length xs → cell xs c ≡ Some (get_or xs (c - 1) d)
 cell_in xs zero d h k = absurd (omega arith)
-cell_in xs (suc i) d h k = let same : i ≡ suc i - 1 = omega arith in nth_at xs i d (omega arith) ∙ ap (λ j. Some (get_or xs j d)) same
+cell_in xs (suc i) d h k = let same : i ≡ suc i - 1 = omega arith in slice_get-get_or xs i d (omega arith) ∙ ap (λ j. Some (get_or xs j d)) same
 
 module _ {X : Type 0} (d : X) (xs : List X) where
-  nth_picked : (cs : List ℕ) (i b : ℕ) → list_all (is_column (length xs)) cs ≡ true → Some b ≡ nth cs i → cell xs b ≡ nth (map (λ c. get_or xs (c - 1) d) cs) i
+  nth_picked : (cs : List ℕ) (i b : ℕ) → list_all (is_column (length xs)) cs ≡ true → Some b ≡ slice_get cs i → cell xs b ≡ slice_get (map (λ c. get_or xs (c - 1) d) cs) i
   nth_picked [] i b h e = let z : ◌≡◌ {A = ℕ} 0 1 = cc in absurd (omega arith)
   nth_picked (c ∷ cs) zero b h e =
       let same : b ≡ c = cc in
@@ -95,14 +96,9 @@ module _ {X : Type 0} (d : X) (xs : List X) where
   cell_picked cs zero b h e = let z : ◌≡◌ {A = ℕ} 0 1 = cc in absurd (omega arith)
   cell_picked cs (suc c) b h e = nth_picked cs c b h e
 
-nth_beyond : {X Y : Type 0} (f : X → Y) (xs : List X) (i : ℕ) → None ≡ nth xs i → None ≡ nth (map f xs) i
-nth_beyond f [] i e = refl
-nth_beyond f (x ∷ xs) zero e = let z : ◌≡◌ {A = ℕ} 0 1 = cc in absurd (omega arith)
-nth_beyond f (x ∷ xs) (suc i) e = nth_beyond f xs i e
-
 pub cell_missing : {X Y : Type 0} (f : X → Y) (xs : List X) (c : ℕ) → None ≡ cell xs c → None ≡ cell (map f xs) c
 cell_missing f xs zero e = refl
-cell_missing f xs (suc c) e = nth_beyond f xs c e
+cell_missing f xs (suc c) e = sym (slice_get-map f xs c ∙ ap (option_map f) (sym e))
 
 -- ---- the parts of a row
 

@@ -1,10 +1,10 @@
 -- Kinds compared one by one.
 use Rattle.std.proofs.Common.{◌≡◌, ℕ, zero, suc, ◌+◌, Bool, false, ◌&&◌, List, [], ◌∷◌, length, refl, ap, ◌∙◌, ap₂, add-one, arith}
-use Rattle.std.specs.List.{list_all, range_with_len}
+use Rattle.std.specs.List.{slice_get, list_all, range_with_len}
 use Rattle.std.proofs.lemmas.Bool.{and_right}
 use Rattle.relation.specs.declared.kinds.Kind.{Kind}
 use Rattle.relation.specs.Kinds.{same_kind}
-use Rattle.source.specs.Meaning.{nth, cell}
+use Rattle.source.specs.Meaning.{cell}
 use Rattle.layers.specs.Alike.{alike, same_kinds}
 
 pub lengths_differ : (ks ls : List Kind) → (length ks ≡ length ls → ⊥) → same_kinds ks ls ≡ false
@@ -21,19 +21,19 @@ later : (f : ℕ → Bool) (a n : ℕ) → list_all f (range_with_len (a + 1) n)
 later f a zero = refl
 later f a (suc n) = ap (λ b. f (a + 1) && b) (later f (a + 1) n)
 
-by_places : (ks ls : List Kind) → length ks ≡ length ls → list_all (λ i. alike (nth ks i) (nth ls i)) (range_with_len 0 (length ks)) ≡ same_kinds ks ls
+by_places : (ks ls : List Kind) → length ks ≡ length ls → list_all (λ i. alike (slice_get ks i) (slice_get ls i)) (range_with_len 0 (length ks)) ≡ same_kinds ks ls
 by_places [] [] e = refl
 by_places [] (l ∷ ls) e = absurd (omega arith)
 by_places (k ∷ ks) [] e = absurd (omega arith)
 by_places (k ∷ ks) (l ∷ ls) e =
     ap (λ b. same_kind k l && b)
-    (later (λ i. alike (nth (k ∷ ks) i) (nth (l ∷ ls) i)) 0 (length ks)
-    ∙ list_all-by (λ i. alike (nth (k ∷ ks) (i + 1)) (nth (l ∷ ls) (i + 1))) (λ i. alike (nth ks i) (nth ls i)) (λ i. rw add-one refl) (range_with_len 0 (length ks))
+    (later (λ i. alike (slice_get (k ∷ ks) i) (slice_get (l ∷ ls) i)) 0 (length ks)
+    ∙ list_all-by (λ i. alike (slice_get (k ∷ ks) (i + 1)) (slice_get (l ∷ ls) (i + 1))) (λ i. alike (slice_get ks i) (slice_get ls i)) (λ i. rw add-one refl) (range_with_len 0 (length ks))
     ∙ by_places ks ls (omega arith))
 
 -- the columns counted from 1
 pub by_columns : (ks ls : List Kind) → length ks ≡ length ls → list_all (λ c. alike (cell ks c) (cell ls c)) (range_with_len 1 (length ks)) ≡ same_kinds ks ls
 by_columns ks ls e =
     later (λ c. alike (cell ks c) (cell ls c)) 0 (length ks)
-    ∙ list_all-by (λ i. alike (cell ks (i + 1)) (cell ls (i + 1))) (λ i. alike (nth ks i) (nth ls i)) (λ i. rw add-one refl) (range_with_len 0 (length ks))
+    ∙ list_all-by (λ i. alike (cell ks (i + 1)) (cell ls (i + 1))) (λ i. alike (slice_get ks i) (slice_get ls i)) (λ i. rw add-one refl) (range_with_len 0 (length ks))
     ∙ by_places ks ls e

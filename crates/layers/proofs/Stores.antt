@@ -1,5 +1,6 @@
 -- Conditions and columns on a stored row.
 use Rattle.std.proofs.Common.{◌≡◌, ℕ, zero, suc, ◌-◌, ◌<◌, ◌≤◌, Bool, true, false, cond, List, [], ◌∷◌, length, get_or, pos, is_some, Some, None, Option, refl, ap, ◌∙◌, ap₂, arith}
+use Rattle.std.specs.List.{slice_get}
 use Rattle.std.specs.Option.{MatchOption}
 use Rattle.std.specs.Bool.{then_some}
 use Rattle.std.proofs.lemmas.Bool.{false≢true}
@@ -13,7 +14,7 @@ use Rattle.relation.specs.Sets.{Tuple, column}
 use Rattle.relation.specs.Rows.{SpecRow}
 use Rattle.relation.specs.Stored.{firsts, stored}
 use Rattle.relation.specs.Operations.{compares, valued, meets}
-use Rattle.source.specs.Meaning.{Meaning, Sound, cell, nth, row?, row_of}
+use Rattle.source.specs.Meaning.{Meaning, Sound, cell, row?, row_of}
 use Rattle.layers.specs.Alike.{alike}
 use Rattle.layers.specs.Selects.{kept, selected, term_kind, TermInRow, NamesInRow, no_select}
 use Rattle.layers.specs.Soundness.{passed}
@@ -57,14 +58,14 @@ kept_whole q (Some r) w h = step (meets q r.tuple) h
     step true e = refl
     step false e = let z : ◌≡◌ {A = ℕ} 0 1 = cc in absurd (omega arith)
 
-nth_some : {X : Type 0} (xs : List X) (i : ℕ) → is_some (nth xs i) ≡ true → i < length xs
-nth_some [] i h = absurd (false≢true h)
-nth_some (x ∷ xs) zero h = omega arith
-nth_some (x ∷ xs) (suc i) h = let t = nth_some xs i h in omega arith
+slice_some : {X : Type 0} (xs : List X) (i : ℕ) → is_some (slice_get xs i) ≡ true → i < length xs
+slice_some [] i h = absurd (false≢true h)
+slice_some (x ∷ xs) zero h = omega arith
+slice_some (x ∷ xs) (suc i) h = let t = slice_some xs i h in omega arith
 
 cell_some : {X : Type 0} (xs : List X) (c : ℕ) → is_some (cell xs c) ≡ true → (1 ≤ c) × (c ≤ length xs)
 cell_some xs zero h = absurd (false≢true h)
-cell_some xs (suc c) h = let t = nth_some xs c h in (omega arith, omega arith)
+cell_some xs (suc c) h = let t = slice_some xs c h in (omega arith, omega arith)
 
 alike_some : (o p : Option Kind) → alike o p ≡ true → (is_some o ≡ true) × (is_some p ≡ true)
 alike_some None p h = absurd (false≢true h)
