@@ -2,9 +2,9 @@
 use Rattle.std.specs.List.{slice_get, list_all, enumerate_from, AllWithin, HoldsAt}
 use Rattle.std.specs.Option.{MatchOption, unwrap_or, option_map}
 use Rattle.std.proofs.lemmas.List.FromFn.{length-enumerate_from, get_or-enumerate_from}
-use Rattle.std.proofs.Common.{◌≡◌, ℕ, zero, suc, ◌+◌, ◌-◌, ◌<◌, ◌≤◌, true, false, leb, ◌≢◌, List, [], ◌∷◌, ◌++◌, map, length, get_or, take, set, pos, Some, None, Option, sym, refl, ap, ◌∙◌, subst, ap₂, ⊎_elim, arith}
+use Rattle.std.proofs.Common.{◌≡◌, ℕ, zero, suc, ◌+◌, ◌-◌, ◌<◌, ◌≤◌, true, leb, ◌≢◌, List, [], ◌∷◌, ◌++◌, map, length, get_or, take, set, pos, Some, None, Option, sym, refl, ap, ◌∙◌, subst, ap₂, ⊎_elim, arith}
 use Rattle.std.proofs.lemmas.List.{length-take, length-take-le, get_or-take, get_or-map, length-map, map-append, take_more}
-use Rattle.std.proofs.lemmas.Bool.{and_parts, cases_lt, le-leb, lt-leb, and_from, and_left, and_right}
+use Rattle.std.proofs.lemmas.Bool.{and_parts, cases_lt, le-leb, and_from}
 use Rattle.relation.specs.declared.kinds.Kind.TheVariants.{Number}
 use Rattle.relation.specs.declared.rows.Row.{Row}
 use Rattle.relation.specs.Bounds.{most_columns}
@@ -26,12 +26,6 @@ use Rattle.layers.proofs.Stores.{column_stored}
 
 pub all_columns_lem : (n : ℕ) (cs : List ℕ) → 0 < length cs → length cs ≤ most_columns → list_all (is_column n) cs ≡ true → are_columns n cs ≡ true
 all_columns_lem n cs some few each = and_from (leb 1 (length cs)) _ (le-leb 1 (length cs) some) (and_from (leb (length cs) most_columns) _ (le-leb (length cs) most_columns few) each)
-
-pub one_missing : (n : ℕ) (cs : List ℕ) → list_all (is_column n) cs ≡ false → are_columns n cs ≡ false
-one_missing n cs h = and_right (leb 1 (length cs)) _ (and_right (leb (length cs) most_columns) _ h)
-
-pub too_long : (n : ℕ) (cs : List ℕ) → most_columns < length cs → are_columns n cs ≡ false
-too_long n cs h = and_right (leb 1 (length cs)) _ (and_left (leb (length cs) most_columns) _ (lt-leb (length cs) most_columns h))
 
 -- columns of a narrow source are columns of a wide one
 pub wider : (n m : ℕ) (cs : List ℕ) → n ≤ m → list_all (is_column n) cs ≡ true → list_all (is_column m) cs ≡ true
