@@ -1,13 +1,11 @@
 // A whole list as text.
 ghost use Rattle.std.specs.Prelude.{◌≡◌, map, length};
 ghost use Rattle.std.specs.List.{flat_map};
-ghost use Rattle.relation.specs.Stored.{listed, meant};
+ghost use Rattle.relation.specs.Stored.{meant};
 ghost use Rattle.listing.specs.Pens.{Puts, Goes};
 ghost use Rattle.listing.specs.Text.{letter, header_text, row_text, list_text, Writes};
 
 use crate::pen::{Pass, Pen};
-use crate::rows::kind_at;
-use relation::columns::Kinds;
 use relation::kinds::Kind;
 use relation::refusals::{Reason, Refusal};
 use relation::rows::Row;
@@ -24,17 +22,17 @@ fn letter_of(kind: Kind) -> u8
 
 impl<'a> Pen<'a> {
     // A letter for each kind.
-    fn put_letters(&mut self, kinds: Kinds)
-        ensures { Puts self.old (map letter (listed kinds)) self.new }
+    fn put_letters(&mut self, kinds: &[Kind])
+        ensures { Puts self.old (map letter kinds.now) self.new }
     {
-        for column in 0..kinds.count {
-            self.put(&[letter_of(kind_at(kinds, column))]);
+        for kind in kinds {
+            self.put(&[letter_of(*kind)]);
         }
     }
 
     // NAME KINDS ROWS
-    fn put_header(&mut self, name: &[u8], kinds: Kinds, count: usize)
-        ensures { Puts self.old (header_text name.now (listed kinds) count) self.new }
+    fn put_header(&mut self, name: &[u8], kinds: &[Kind], count: usize)
+        ensures { Puts self.old (header_text name.now kinds.now count) self.new }
     {
         self.put(name);
         self.put(b" ");
@@ -44,8 +42,8 @@ impl<'a> Pen<'a> {
         self.put(b"\n");
     }
 
-    fn put_rows(&mut self, kinds: Kinds, rows: &[Row])
-        ensures { Puts self.old (flat_map (row_text (listed kinds)) (map (meant kinds.count) rows.now)) self.new }
+    fn put_rows(&mut self, kinds: &[Kind], rows: &[Row])
+        ensures { Puts self.old (flat_map (row_text kinds.now) (map (meant (length kinds.now)) rows.now)) self.new }
     {
         for row in rows {
             self.put_row(kinds, row);
@@ -54,8 +52,8 @@ impl<'a> Pen<'a> {
 }
 
 // Goes over the whole text, and answers where it ends; none where the output has no room for it.
-fn put_list(pass: Pass, name: &[u8], kinds: Kinds, rows: &[Row], output: &mut [u8]) -> Option<usize>
-    ensures { Goes pass (list_text name.now (listed kinds) (map (meant kinds.count) rows.now)) output.old result output.new }
+fn put_list(pass: Pass, name: &[u8], kinds: &[Kind], rows: &[Row], output: &mut [u8]) -> Option<usize>
+    ensures { Goes pass (list_text name.now kinds.now (map (meant (length kinds.now)) rows.now)) output.old result output.new }
 {
     let mut pen = Pen {
         bytes: output,
@@ -68,20 +66,16 @@ fn put_list(pass: Pass, name: &[u8], kinds: Kinds, rows: &[Row], output: &mut [u
 }
 
 // Writes the text of the rows: a line `NAME KINDS ROWS`, then a line `FROM UNTIL VALUE ..` for each, in their order.
-// A kind or a value past the sixth is a number, 0. Refused by 12, with nothing written, where the text does not fit whole.
+// A value past the sixth is 0. Refused by 12, with nothing written, where the text does not fit whole.
 pub fn write_list(
     name: &[u8],
-    kinds: Kinds,
+    kinds: &[Kind],
     rows: &[Row],
     output: &mut [u8],
 ) -> Result<usize, Refusal>
-    ensures { Writes (list_text name.now (listed kinds) (map (meant kinds.count) rows.now)) result output.old output.new }
+    ensures { Writes (list_text name.now kinds.now (map (meant (length kinds.now)) rows.now)) result output.old output.new }
 {
-    match put_list(Pass::Measure, name, kinds, rows, output) {
-        None => Err(Refusal::plain(Reason::ShortOutput)),
-        Some(end) => {
-            put_list(Pass::Write, name, kinds, rows, output);
-            Ok(end)
-        }
-    }
+    let end = put_list(Pass::Measure, name, kinds, rows, output).ok_or(Reason::ShortOutput)?;
+    put_list(Pass::Write, name, kinds, rows, output);
+    Ok(end)
 }

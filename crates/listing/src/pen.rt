@@ -23,9 +23,7 @@ fn copy_at(bytes: &mut [u8], at: usize, part: &[u8])
     requires { length part.now ≤ length bytes.old - at }
     ensures { bytes.new ≡ written bytes.old at part.now }
 {
-    for (i, b) in part.iter().enumerate() {
-        bytes[at + i] = *b;
-    }
+    bytes[at..at + part.len()].copy_from_slice(part);
 }
 
 // Goes on by the part that begins at `at`, and answers where it ends; none where there is no room for it.

@@ -1,37 +1,20 @@
 // The line of a row.
-ghost use Rattle.std.specs.Prelude.{◌≡◌, pos, slice_index_or};
-ghost use Rattle.relation.specs.Stored.{listed, meant};
+ghost use Rattle.std.specs.Prelude.{◌≡◌, length, pos, slice_index_or};
+ghost use Rattle.relation.specs.Stored.{meant};
 ghost use Rattle.relation.specs.Values.{word_text};
 ghost use Rattle.listing.specs.Pens.{Puts};
 ghost use Rattle.listing.specs.Text.{spelled, value_text, values_text, row_text};
 
 use crate::pen::Pen;
-use relation::bounds::MOST_COLUMNS;
-use relation::columns::Kinds;
 use relation::kinds::Kind;
 use relation::rows::Row;
 use relation::values::word_text;
-
-// The kind of a column, counted from 0: past the last, a number.
-pub(crate) fn kind_at(kinds: Kinds, column: usize) -> Kind
-    ensures { result ≡ slice_index_or kinds.at column Kind.Number }
-{
-    if column < MOST_COLUMNS {
-        kinds.at[column]
-    } else {
-        Kind::Number
-    }
-}
 
 // The value of a column, counted from 0: past the last, 0.
 fn value_at(row: &Row, column: usize) -> i64
     ensures { result ≡ slice_index_or row.now.values column (pos 0) }
 {
-    if column < MOST_COLUMNS {
-        row.values[column]
-    } else {
-        0
-    }
+    row.values.get(column).copied().unwrap_or(0)
 }
 
 impl<'a> Pen<'a> {
@@ -40,7 +23,7 @@ impl<'a> Pen<'a> {
         ensures { Puts self.old (spelled (word_text value)) self.new }
     {
         if let Some(text) = word_text(value) {
-            self.put(text.as_bytes());
+            self.put(text.as_slice());
         }
     }
 
@@ -59,18 +42,18 @@ impl<'a> Pen<'a> {
     }
 
     // The row's values, a space before each.
-    fn put_values(&mut self, kinds: Kinds, row: &Row)
-        ensures { Puts self.old (values_text (listed kinds) (meant kinds.count row.now).tuple) self.new }
+    fn put_values(&mut self, kinds: &[Kind], row: &Row)
+        ensures { Puts self.old (values_text kinds.now (meant (length kinds.now) row.now).tuple) self.new }
     {
-        for column in 0..kinds.count {
+        for (column, kind) in kinds.iter().enumerate() {
             self.put(b" ");
-            self.put_value(kind_at(kinds, column), value_at(row, column));
+            self.put_value(*kind, value_at(row, column));
         }
     }
 
     // FROM UNTIL VALUE ..
-    pub(crate) fn put_row(&mut self, kinds: Kinds, row: &Row)
-        ensures { Puts self.old (row_text (listed kinds) (meant kinds.count row.now)) self.new }
+    pub(crate) fn put_row(&mut self, kinds: &[Kind], row: &Row)
+        ensures { Puts self.old (row_text kinds.now (meant (length kinds.now) row.now)) self.new }
     {
         self.put_decimal(row.first as u64);
         self.put(b" ");
