@@ -72,14 +72,10 @@ pub fn write_list(
     put_list(&mut room, name, kinds, rows);
     let left = room.0.ok_or(Reason::ShortOutput)?;
     let size = output.len() - left;
-    put_list(
-        &mut Output {
-            bytes: output,
-            at: 0,
-        },
-        name,
-        kinds,
-        rows,
-    );
+    let mut written = Output {
+        bytes: output,
+        at: 0,
+    };
+    put_list(&mut written, name, kinds, rows);
     Ok(size)
 }

@@ -29,9 +29,7 @@ impl Sink for Room {
     ghost both = { left_both };
 
     fn put(&mut self, part: &[u8]) {
-        if let Some(left) = self.0 {
-            self.0 = left.checked_sub(part.len());
-        }
+        self.0 = self.0.and_then(|left| left.checked_sub(part.len()));
     }
 }
 
