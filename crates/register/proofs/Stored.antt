@@ -6,19 +6,14 @@ use Rattle.std.specs.Char.{is_ascii_lowercase, is_ascii_digit, is_ascii_alphanum
 use Rattle.std.proofs.lemmas.Int.{to_z-of_z}
 use Rattle.std.proofs.lemmas.Bool.{and_parts, and_from, or_cases, or_left, or_right}
 use Rattle.relation.specs.declared.kinds.Kind.{Kind}
-use Rattle.relation.specs.declared.kinds.Kind.TheVariants.{Number}
-use Rattle.relation.specs.Kinds.{same_kind}
-use Rattle.relation.specs.declared.columns.Kinds.{Kinds}
 use Rattle.relation.specs.declared.rows.Row.{Row}
 use Rattle.relation.specs.declared.refusals.Reason.TheVariants as no
 use Rattle.relation.specs.Rows.{is_period}
-use Rattle.relation.specs.Stored.{firsts, listed, meant}
+use Rattle.relation.specs.Stored.{meant}
 use Rattle.relation.specs.Values.{word_byte, is_word, word, word_value}
 use Rattle.relation.proofs.Spelled.{value_from_word, word_below, words_inverse}
-use Rattle.relation.proofs.Firsts.{length_firsts}
-use Rattle.source.specs.Meaning.{cell, fits}
-use Rattle.source.proofs.Cells.{nth_firsts, nth_at}
-use Rattle.layers.specs.Alike.{alike, same_kinds}
+use Rattle.source.specs.Meaning.{fits}
+use Rattle.layers.specs.Alike.{same_kinds}
 use Rattle.words.specs.Name.{name_byte, is_name}
 use Rattle.register.specs.Layout.{is_zero}
 use Rattle.register.specs.Refusals.{rest_zero, row_no}
@@ -61,24 +56,6 @@ names_apart a b p q e = words_inverse.one_word a b (name_word a p) (name_word b 
 pub cast_is : (z : ℤ) (n : ℕ) → z ≡ pos n → n < 2 ^ 63 → T (non_neg z) × Fits w64 (nat_abs z)
 cast_is z n e h = subst (λ x. T (non_neg x) × Fits w64 (nat_abs x)) (sym e) (tt, omega arith)
 
--- ---- the first few of a list
-
-pub firsts_front : {X : Type 0} (xs ys : List X) (d : X) → firsts (length xs) (xs ++ ys) d ≡ xs
-firsts_front [] ys d = refl
-firsts_front (x ∷ xs) ys d = ap (λ l. x ∷ l) (firsts_front xs ys d)
-
-pub get_d_firsts : {X : Type 0} (n : ℕ) (xs : List X) (d : X) (i : ℕ) → i < n → get_or (firsts n xs d) i d ≡ get_or xs i d
-get_d_firsts zero xs d i h = absurd (omega arith)
-get_d_firsts (suc n) [] d zero h = refl
-get_d_firsts (suc n) [] d (suc i) h = get_d_firsts n [] d i (omega arith)
-get_d_firsts (suc n) (x ∷ xs) d zero h = refl
-get_d_firsts (suc n) (x ∷ xs) d (suc i) h = get_d_firsts n xs d i (omega arith)
-
--- ---- kinds one by one
-
-pub alike_at : (n c : ℕ) (at given : List Kind) → c < n → c < length given → alike (cell (firsts n at Number) (c + 1)) (cell given (c + 1)) ≡ same_kind (get_or at c Number) (get_or given c Number)
-alike_at n c at given h g = rw add-one (ap₂ alike (nth_firsts n at Number c h) (nth_at given c Number g))
-
 -- ---- zeros
 
 pub zero_is : (z : ℤ) → SFits w64 z → of_z w64 z ≡ 0 → true ≡ is_zero z
@@ -91,10 +68,6 @@ zero_not (negsuc n) h = refl
 
 -- ---- why a row is refused, test by test
 
-pub row_no_lem : (ks : Kinds) (given : List Kind) (row : Row) (a b c d : Bool) → same_kinds (listed ks) given ≡ a → is_period row.first row.end ≡ b → fits (listed ks) (meant ks.count row).tuple ≡ c → rest_zero ks.count row ≡ d →
-    row_no (listed ks) given row ≡ cond (not a) (Some no.Misfit) (cond (not b) (Some no.NoPeriod) (cond (not c) (Some no.OutOfBounds) (cond (not d) (Some no.UnusedValue) None)))
-row_no_lem ks given row a b c d pa pb pc pd =
-    let n : length (listed ks) ≡ ks.count = length_firsts ks.count ks.at Number in
-    let pc' : fits (listed ks) (meant (length (listed ks)) row).tuple ≡ c = ap (λ k. fits (listed ks) (meant k row).tuple) n ∙ pc in
-    let pd' : rest_zero (length (listed ks)) row ≡ d = ap (λ k. rest_zero k row) n ∙ pd in
-    λ j. cond (not (pa j)) (Some no.Misfit) (cond (not (pb j)) (Some no.NoPeriod) (cond (not (pc' j)) (Some no.OutOfBounds) (cond (not (pd' j)) (Some no.UnusedValue) None)))
+pub row_no_lem : (ks given : List Kind) (row : Row) (a b c d : Bool) → same_kinds ks given ≡ a → is_period row.first row.end ≡ b → fits ks (meant (length ks) row).tuple ≡ c → rest_zero (length ks) row ≡ d →
+    row_no ks given row ≡ cond (not a) (Some no.Misfit) (cond (not b) (Some no.NoPeriod) (cond (not c) (Some no.OutOfBounds) (cond (not d) (Some no.UnusedValue) None)))
+row_no_lem ks given row a b c d pa pb pc pd = λ j. cond (not (pa j)) (Some no.Misfit) (cond (not (pb j)) (Some no.NoPeriod) (cond (not (pc j)) (Some no.OutOfBounds) (cond (not (pd j)) (Some no.UnusedValue) None)))
