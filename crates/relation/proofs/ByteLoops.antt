@@ -1,18 +1,13 @@
 -- The bytes before a zero, one byte on; the digits of padded bytes.
-use Rattle.std.proofs.Common.{◌≡◌, ℕ, zero, suc, ◌+◌, ◌*◌, ◌^◌, ◌<◌, ◌≤◌, Bool, true, false, cond, eqb, List, [], ◌∷◌, ◌++◌, length, get_or, take, drop, replicate, refl, ap, ◌∙◌, zero-mul, arith}
-use Rattle.std.proofs.lemmas.List.{at_drop_more, at_drop_all}
+use Rattle.std.proofs.Common.{◌≡◌, ℕ, zero, suc, ◌+◌, ◌*◌, ◌^◌, Bool, true, false, cond, eqb, List, [], ◌∷◌, ◌++◌, length, get_or, take, drop, replicate, refl, ap, ◌∙◌, zero-mul, arith}
 use Rattle.std.proofs.lemmas.Bool.{eq-eqb, ne_eqb, cond-true, cond-false}
 use Rattle.relation.specs.Values.{digits, front}
 
-module _ (s : List ℕ) (i : ℕ) where
-  pub front_more : i < length s → (get_or s i 0 ≡ 0 → ⊥) → length (front (drop i s)) ≡ suc (length (front (drop (i + 1) s)))
-  front_more h ne = ap length (at_drop_more front s i 0 h ∙ cond-false _ [] _ (ne_eqb (get_or s i 0) 0 ne))
+pub front_hit : (b : ℕ) (s : List ℕ) → b ≡ 0 → length (front (b ∷ s)) ≡ 0
+front_hit b s e = ap length (cond-true _ [] _ (eq-eqb b 0 e))
 
-  pub front_stop : i < length s → get_or s i 0 ≡ 0 → length (front (drop i s)) ≡ 0
-  front_stop h e = ap length (at_drop_more front s i 0 h ∙ cond-true _ [] _ (eq-eqb (get_or s i 0) 0 e))
-
-  pub front_end : length s ≤ i → length (front (drop i s)) ≡ 0
-  front_end h = ap length (at_drop_all front s i h)
+pub front_miss : (b : ℕ) (s : List ℕ) → (b ≡ 0 → ⊥) → length (front (b ∷ s)) ≡ length (front s) + 1
+front_miss b s ne = ap length (cond-false _ [] _ (ne_eqb b 0 ne)) ∙ omega arith
 
 pub take_front : (s : List ℕ) → take (length (front s)) s ≡ front s
 take_front [] = refl

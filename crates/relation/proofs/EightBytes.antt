@@ -2,7 +2,6 @@
 use Rattle.std.proofs.Common.{◌≡◌, ℕ, ◌+◌, ◌-◌, ◌*◌, ◌/◌, ◌%◌, Bool, true, false, List, [], ◌∷◌, ◌++◌, length, get_or, take, drop, replicate, ℤ, pos, Some, None, Decides, Option, sym, refl, ap, ◌∙◌, subst, div-one, arith, w64, SFits, to_z, of_z, int_eq}
 use Rattle.std.specs.Option.{option_eq}
 use Rattle.std.proofs.lemmas.Bool.Decides.{Decides-int_eq}
-use native.Mathlib.Nat.{sub-zero}
 use Rattle.std.proofs.lemmas.Int.{to_z_pos, to_z-of_z}
 use Rattle.std.proofs.lemmas.List.{drop-replicate}
 use Rattle.std.proofs.lemmas.Bool.{both_ways}
@@ -47,12 +46,12 @@ some_decides (Some x) z r h =
     (λ e. ap Some (d.0 (sym h ∙ e)), λ e. h ∙ d.1 (cc))
 
 -- the first bytes of s, len of them, are read as o, and r tells whether that is z
-module _ (z : ℤ) (s : List ℕ) (len : ℕ) (o : Option ℤ) (r : Bool) (fits : SFits w64 z) (b : len ≡ length (front s)) (d : o ≡ word_value (take (len - 0) s)) (same : r ≡ option_eq int_eq o (Some (to_z w64 (of_z w64 z)))) where
+module _ (z : ℤ) (s : List ℕ) (len : ℕ) (o : Option ℤ) (r : Bool) (fits : SFits w64 z) (b : len ≡ length (front s)) (d : o ≡ word_value (take len s)) (same : r ≡ option_eq int_eq o (Some (to_z w64 (of_z w64 z)))) where
   taken : take len s ≡ front s
   taken = ap (λ (n : ℕ). take n s) b ∙ take_front s
 
   read : word_value (front s) ≡ o
-  read = sym (d ∙ ap (λ (n : ℕ). word_value (take n s)) (sub-zero len) ∙ ap word_value taken)
+  read = sym (d ∙ ap word_value taken)
 
   told : Decides r (o ≡ Some z)
   told = subst (λ (x : ℤ). Decides r (o ≡ Some x)) (to_z-of_z w64 z fits) (some_decides o (to_z w64 (of_z w64 z)) r same)

@@ -1,5 +1,5 @@
 -- Lemmas on the first few of a list.
-use Rattle.std.proofs.Common.{◌≡◌, ℕ, zero, suc, ◌<◌, ◌≤◌, min, List, [], ◌∷◌, length, get_or, set, sym, refl, ap, ◌∙◌, ⊎_elim, arith}
+use Rattle.std.proofs.Common.{◌≡◌, ℕ, zero, suc, ◌<◌, ◌≤◌, min, List, [], ◌∷◌, ◌++◌, length, get_or, set, take, drop, replicate, sym, refl, ap, ◌∙◌, ⊎_elim, arith}
 use Rattle.std.proofs.lemmas.Bool.{cases_lt}
 use Rattle.relation.specs.Stored.{firsts}
 
@@ -32,3 +32,15 @@ firsts_min n c xs d = ⊎_elim
 pub firsts_all : {X : Type 0} (xs : List X) (d : X) → firsts (length xs) xs d ≡ xs
 firsts_all [] d = refl
 firsts_all (x ∷ xs) d = ap (λ ys. x ∷ ys) (firsts_all xs d)
+
+firsts_none : {X : Type 0} (n : ℕ) (d : X) → replicate n d ≡ firsts n [] d
+firsts_none zero d = refl
+firsts_none (suc n) d = ap (λ ys. d ∷ ys) (firsts_none n d)
+
+-- the first c of a list, copied over the padding
+pub firsts_copied : {X : Type 0} (n c : ℕ) (xs : List X) (d : X) → c ≤ n → c ≤ length xs → take c xs ++ drop c (replicate n d) ≡ firsts n (firsts c xs d) d
+firsts_copied zero zero xs d h k = refl
+firsts_copied zero (suc c) xs d h k = absurd (omega arith)
+firsts_copied (suc n) zero xs d h k = firsts_none (suc n) d
+firsts_copied (suc n) (suc c) [] d h k = absurd (omega arith)
+firsts_copied (suc n) (suc c) (x ∷ xs) d h k = ap (λ ys. x ∷ ys) (firsts_copied n c xs d (omega arith) (omega arith))

@@ -1,4 +1,5 @@
 pub mod Every
+pub mod Shorts
 pub mod Spelled
 pub mod KindsTold
 pub mod ByteLoops

@@ -18,12 +18,12 @@ impl Sign {
         ensures { result ≡ compares self x y }
     {
         match self {
-            Sign::Equal => x <= y && y <= x,
-            Sign::NotEqual => x < y || y < x,
+            Sign::Equal => x == y,
+            Sign::NotEqual => x != y,
             Sign::Less => x < y,
             Sign::LessEqual => x <= y,
-            Sign::Greater => y < x,
-            Sign::GreaterEqual => y <= x,
+            Sign::Greater => x > y,
+            Sign::GreaterEqual => x >= y,
         }
     }
 }

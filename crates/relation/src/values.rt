@@ -47,10 +47,7 @@ pub fn word_value(bytes: &[u8]) -> Option<i64>
 fn before_zero(bytes: &[u8]) -> usize
     ensures { result ≡ length (front bytes.now) }
 {
-    bytes
-        .iter()
-        .position(|b| *b == 0)
-        .unwrap_or(bytes.len())
+    bytes.iter().position(|b| *b == 0).unwrap_or(bytes.len())
 }
 
 // The bytes of the word that the value is; none where it is no word's.

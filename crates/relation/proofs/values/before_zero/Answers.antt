@@ -1,12 +1,11 @@
-use Rattle.std.proofs.Common.{arith}
-use Rattle.relation.proofs.ByteLoops.{front_more, front_stop, front_end}
+use Rattle.std.proofs.Common.{rules, ◌≡◌, length, refl, sym, ◌∙◌}
+use borrow.Author.Tests.{tests}
+use Rattle.std.proofs.lemmas.Iterator.{YieldsList-from_slice, IsFirst-from_position, index_from_first}
+use Rattle.relation.specs.Values.{front}
+use Rattle.relation.proofs.ByteLoops.{front_hit, front_miss}
 use Rattle.relation.proofs.values.before_zero.Goals as goal
 
-pub returns-then-b-eq0 : goal.returns-then-b-eq0
-returns-then-b-eq0 c = omega (arith, front_stop c.args.bytes.now c.loop-i.i c.loop-i-test.true c.if-b-eq0.true)
-
-pub loop-i-preserved : goal.loop-i-preserved
-loop-i-preserved c = omega (arith, front_more c.args.bytes.now c.loop-i.i c.loop-i-test.true c.if-b-eq0.false)
-
 pub returns : goal.returns
-returns c = omega (arith, front_end c.args.bytes.now c.loop-i.i c.loop-i-test.false)
+returns c =
+    c.unwrap_or.ensures
+    ∙ sym (index_from_first (λ s. length (front s)) (λ b. b ≡ 0) (λ b. b ≡ 0 → ⊥) refl front_hit front_miss c.args.bytes.now c.position.result (IsFirst-from_position _ _ c.position.result (λ b. b ≡ 0) (λ b. b ≡ 0 → ⊥) c.position.ensures.ran (YieldsList-from_slice c.args.bytes.now cc) (λ x q k. search (rules, tests)) (λ x q k. search (rules, tests))))
