@@ -7,7 +7,8 @@ use Rattle.relation.specs.declared.rows.Row.{Row}
 use Rattle.relation.specs.declared.kinds.Kind.TheVariants.{Number}
 use Rattle.relation.specs.Bounds.{most_columns, most_entries, most_stored}
 use Rattle.relation.specs.Rows.{SpecRow}
-use Rattle.relation.specs.Stored.{listed, meant, blank_row}
+use Rattle.relation.specs.Few.{items}
+use Rattle.relation.specs.Stored.{meant, blank_row}
 use Rattle.relation.proofs.Every.{every_at}
 use Rattle.relation.proofs.Firsts.{length_firsts}
 use Rattle.register.specs.declared.entries.Mark.{Mark}
@@ -64,23 +65,23 @@ every_push p (y ∷ ys) x h g = let q = and_parts (p y) (list_all p ys) h in and
 
 -- what is known of the rows of an entry in use
 pub record GoodAt (e : Entry) (rows : List SpecRow) : Type 0 where
-  pub few : is_few (listed e.kinds) ≡ true
-  pub rows_good : list_all (good_row (listed e.kinds)) rows ≡ true
+  pub few : is_few (items e.kinds) ≡ true
+  pub rows_good : list_all (good_row (items e.kinds)) rows ≡ true
   pub ordered : cond (is_published e.mark) (is_listed rows) true ≡ true
 
 pub good_at : (es : List Entry) (rs : List Row) (i : ℕ) → Sound es rs → i < length es → is_free (get_or es i free).mark ≡ false →
-    GoodAt (get_or es i free) (map (meant (get_or es i free).kinds.count) (old es rs i))
+    GoodAt (get_or es i free) (map (meant (length (items (get_or es i free).kinds))) (old es rs i))
 good_at es rs i sound h busy =
     let e = get_or es i free in
-    let rows = map (meant e.kinds.count) (old es rs i) in
+    let rows = map (meant (length (items e.kinds))) (old es rs i) in
     let l : i < length (parts es rs) = simp length_parts h in
     let g : good_part (entry_part e (old es rs i)) ≡ true = sym (ap good_part (parts_at es rs i nobody h)) ∙ every_at good_part (parts es rs) nobody i sound.fitting l in
-    let p = and_parts (is_few (listed e.kinds)) _ (sym (cond-false (is_free e.mark) true _ busy) ∙ g) in
-    let q = and_parts (list_all (good_row (listed e.kinds)) (map (meant e.kinds.count) (old es rs i))) _ p.1 in
+    let p = and_parts (is_few (items e.kinds)) _ (sym (cond-false (is_free e.mark) true _ busy) ∙ g) in
+    let q = and_parts (list_all (good_row (items e.kinds)) (map (meant (length (items e.kinds))) (old es rs i))) _ p.1 in
     record { few = p.0; rows_good = q.0; ordered = q.1 }
 
-pub good_from : (e : Entry) (rows : List Row) → GoodAt e (map (meant e.kinds.count) rows) → good_part (entry_part e rows) ≡ true
-good_from e rows g = go (is_free e.mark) _ (and_from (is_few (listed e.kinds)) _ g.few (and_from (list_all (good_row (listed e.kinds)) (map (meant e.kinds.count) rows)) _ g.rows_good g.ordered))
+pub good_from : (e : Entry) (rows : List Row) → GoodAt e (map (meant (length (items e.kinds))) rows) → good_part (entry_part e rows) ≡ true
+good_from e rows g = go (is_free e.mark) _ (and_from (is_few (items e.kinds)) _ g.few (and_from (list_all (good_row (items e.kinds)) (map (meant (length (items e.kinds))) rows)) _ g.rows_good g.ordered))
   where
     go : (b x : Bool) → x ≡ true → cond b true x ≡ true
     go true x h = refl
@@ -93,7 +94,7 @@ draft_order m b h = ap (λ x. cond (is_published x) b true) h
 -- a sound store with one entry changed
 pub sound_set : (es : List Entry) (rs rs' : List Row) (i : ℕ) (e' : Entry) (new : List Row) → Sound es rs → i < length es →
     parts (set es i e') rs' ≡ set (parts es rs) i (entry_part e' new) →
-    Room (set es i e') rs' → Blanks (set es i e') rs' → Apart (set es i e') → (e'.mark ≡ Free → e'.count ≡ 0) → e'.kinds.count ≤ most_columns → good_part (entry_part e' new) ≡ true → Sound (set es i e') rs'
+    Room (set es i e') rs' → Blanks (set es i e') rs' → Apart (set es i e') → (e'.mark ≡ Free → e'.count ≡ 0) → (length (items e'.kinds)) ≤ most_columns → good_part (entry_part e' new) ≡ true → Sound (set es i e') rs'
 sound_set es rs rs' i e' new s h changed room blanks far empty wide good = record {
   all = length-set es i e' ∙ s.all;
   room = room;
@@ -104,8 +105,8 @@ sound_set es rs rs' i e' new s h changed room blanks far empty wide good = recor
     | inr ne ↦ let q = get_or-set_other es i k e' free ne in ap (λ x. x.count) q ∙ s.empty k (sym (ap (λ x. x.mark) q) ∙ m)
   ];
   wide = λ k. elim (cases_eq k i) [
-    | inl p ↦ subst (λ x. x.kinds.count ≤ most_columns) (sym (ap (λ x. get_or (set es i e') x free) p ∙ get_or-set_same es i e' free h)) wide
-    | inr ne ↦ subst (λ x. x.kinds.count ≤ most_columns) (sym (get_or-set_other es i k e' free ne)) (s.wide k)
+    | inl p ↦ subst (λ x. (length (items x.kinds)) ≤ most_columns) (sym (ap (λ x. get_or (set es i e') x free) p ∙ get_or-set_same es i e' free h)) wide
+    | inr ne ↦ subst (λ x. (length (items x.kinds)) ≤ most_columns) (sym (get_or-set_other es i k e' free ne)) (s.wide k)
   ];
   fitting = ap (list_all good_part) changed ∙ every_set good_part (parts es rs) i (entry_part e' new) s.fitting good;
 }
@@ -147,8 +148,8 @@ change_result s t i e' new whole h stands code same kinds count p changed room b
     let t' : held t ≡ named (parts (set es i e') rs') = ap (λ x. named (parts x rs')) p in
     let u0 : used t ≡ total (set es i e') = ap total p in
     let u1 = total_set es i e' l in
-    let u2 : size_of (held s n) ≡ e.count = ap size_of (held_at es rs i n whole.apart l stands) ∙ (length-map (old es rs i) (meant e.kinds.count) ∙ old_length es rs i whole l) in
-    let u3 : size_of (Some (entry_part e' new)) ≡ e'.count = length-map new (meant e'.kinds.count) ∙ sym count in (
+    let u2 : size_of (held s n) ≡ e.count = ap size_of (held_at es rs i n whole.apart l stands) ∙ (length-map (old es rs i) (meant (length (items e.kinds))) ∙ old_length es rs i whole l) in
+    let u3 : size_of (Some (entry_part e' new)) ≡ e'.count = length-map new (meant (length (items e'.kinds))) ∙ sym count in (
       subst (λ x. Sound x rs') (sym p) sound,
       record {
         only = record { here = ap (λ f. f n) t' ∙ o.here; other = λ m ne. ap (λ f. f m) t' ∙ o.other m ne };
@@ -164,17 +165,17 @@ change_result s t i e' new whole h stands code same kinds count p changed room b
 -- the part with one row more
 added_is : (e : Entry) (rows : List Row) (row : Row) → added row (Some (entry_part e rows)) ≡ Some (entry_part (grown e) (rows ++ row ∷ []))
 added_is e rows row =
-    let n = length_firsts e.kinds.count e.kinds.at Number in
-    let q : map (meant e.kinds.count) rows ++ meant (length (listed e.kinds)) row ∷ [] ≡ map (meant e.kinds.count) (rows ++ row ∷ []) =
-    ap (λ k. map (meant e.kinds.count) rows ++ meant k row ∷ []) n ∙ sym (map_push (meant e.kinds.count) rows row) in
-    λ j. Some (record { name = e.name.code; mark = e.mark; kinds = listed e.kinds; rows = q j })
+    let n = length_firsts (length (items e.kinds)) e.kinds.at Number in
+    let q : map (meant (length (items e.kinds))) rows ++ meant (length (items e.kinds)) row ∷ [] ≡ map (meant (length (items e.kinds))) (rows ++ row ∷ []) =
+    ap (λ k. map (meant (length (items e.kinds))) rows ++ meant k row ∷ []) n ∙ sym (map_push (meant (length (items e.kinds))) rows row) in
+    λ j. Some (record { name = e.name.code; mark = e.mark; kinds = items e.kinds; rows = q j })
 
 draft_busy : (m : Mark) → m ≡ Draft → is_free m ≡ false
 draft_busy m h = ap is_free h
 
 pub add_result : (s t : Store) (i : ℕ) (row : Row) (at u : ℕ) →
     Whole s → i < most_entries → mark_at s i ≡ Draft → used s < rows_of s →
-    good_row (listed (get_or s.directory.entries i free).kinds) (meant (get_or s.directory.entries i free).kinds.count row) ≡ true →
+    good_row (items (get_or s.directory.entries i free).kinds) (meant (length (items (get_or s.directory.entries i free).kinds)) row) ≡ true →
     at ≡ total (take (i + 1) s.directory.entries) → u ≡ used s →
     t.directory.entries ≡ set s.directory.entries i (grown (get_or s.directory.entries i free)) →
     t.rows.now ≡ opened s.rows.now at u row →
@@ -205,7 +206,7 @@ add_result s t i row at u whole h draft room good here use' p q =
     let g = good_at es rs i whole l (draft_busy e.mark draft) in
     let fine : good_part (entry_part (grown e) (old es rs i ++ row ∷ [])) ≡ true = good_from (grown e) (old es rs i ++ row ∷ []) (record {
       few = g.few;
-      rows_good = ap (list_all (good_row (listed e.kinds))) (map_push (meant e.kinds.count) (old es rs i) row) ∙ every_push (good_row (listed e.kinds)) (map (meant e.kinds.count) (old es rs i)) (meant e.kinds.count row) g.rows_good good;
+      rows_good = ap (list_all (good_row (items e.kinds))) (map_push (meant (length (items e.kinds))) (old es rs i) row) ∙ every_push (good_row (items e.kinds)) (map (meant (length (items e.kinds))) (old es rs i)) (meant (length (items e.kinds)) row) g.rows_good good;
       ordered = draft_order e.mark _ draft;
     }) in
     let made = change_result s t i (grown e) (old es rs i ++ row ∷ []) whole h stands refl (λ m. refl) refl z p changed
@@ -215,5 +216,5 @@ add_result s t i row at u whole h draft room good here use' p q =
     let o : added row (held s n) ≡ Some (entry_part (grown e) (old es rs i ++ row ∷ [])) = ap (added row) (held_at es rs i n whole.apart l stands) ∙ added_is e (old es rs i) row in (
       made.0,
       subst (Leaves s t n) (sym o) made.1,
-      z ∙ sym (ap size_of made.1.only.here ∙ length-map (old es rs i ++ row ∷ []) (meant e.kinds.count)),
+      z ∙ sym (ap size_of made.1.only.here ∙ length-map (old es rs i ++ row ∷ []) (meant (length (items e.kinds)))),
     )

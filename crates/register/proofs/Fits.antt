@@ -6,13 +6,13 @@ use Rattle.relation.specs.declared.rows.Row.{Row}
 use Rattle.relation.specs.declared.refusals.Reason.{Reason}
 use Rattle.relation.specs.declared.refusals.Reason.TheVariants as no
 use Rattle.relation.specs.Bounds.{most_entries}
-use Rattle.relation.specs.Stored.{listed}
 use Rattle.relation.specs.Values.{word}
 use Rattle.words.specs.Name.{is_name}
 use Rattle.register.specs.declared.entries.Mark.{Mark}
 use Rattle.register.specs.declared.entries.Mark.TheVariants.{Free, Draft, Published}
 use Rattle.register.specs.declared.slips.Slip.{Slip}
 use Rattle.register.specs.declared.store.Store.{Store}
+use Rattle.relation.specs.Few.{items}
 use Rattle.register.specs.Layout.{entry_part, parts, bears, bearer, bearing, free, is_draft, is_published}
 use Rattle.register.specs.State.{held, Whole, mark_at, code_at, used, rows_of, drafted, published, kinds_of, size_of}
 use Rattle.register.specs.declared.entries.Entry.{Entry}
@@ -75,7 +75,7 @@ held_slip number s slip i whole f =
 
 -- which refusal a put gives, where the slip fits the entry at i
 pub put_no_lem : (number : ℕ) (s : Store) (slip : Slip) (row : Row) (given : List Kind) (i : ℕ) → Whole s → Fitted number s slip i →
-    put_no number s slip row given ≡ or_else (row_no (listed (get_or s.directory.entries i free).kinds) given row) (cond (not (ltb (used s) (rows_of s))) (Some no.NoRow) None)
+    put_no number s slip row given ≡ or_else (row_no (items (get_or s.directory.entries i free).kinds) given row) (cond (not (ltb (used s) (rows_of s))) (Some no.NoRow) None)
 put_no_lem number s slip row given i whole f =
     let n = slip.name.code in
     let room : Option Reason = cond (not (ltb (used s) (rows_of s))) (Some no.NoRow) None in

@@ -4,6 +4,7 @@ use Rattle.std.proofs.lemmas.List.{length-map}
 use Rattle.std.proofs.lemmas.Bool.{both_ways, cases_lt, eq-eqb}
 use Rattle.relation.specs.declared.kinds.Kind.{Kind}
 use Rattle.relation.specs.Bounds.{most_entries, most_stored}
+use Rattle.relation.specs.Few.{items}
 use Rattle.relation.specs.Stored.{meant, blank_row}
 use Rattle.register.specs.declared.entries.Mark.TheVariants.{Free}
 use Rattle.register.specs.declared.entries.Entry.{Entry}
@@ -67,7 +68,7 @@ clear_result s t i at c u whole h stands a b d p q =
     refl in
     let t' : held t ≡ named (parts (set es i vacant) rs') = ap (λ x. named (parts x rs')) p in
     let u0 : used t ≡ total (set es i vacant) = ap total p in
-    let u2 : size_of (held s n) ≡ e.count = ap size_of (held_at es rs i n whole.apart l stands) ∙ (length-map (old es rs i) (meant e.kinds.count) ∙ old_length es rs i whole l) in (
+    let u2 : size_of (held s n) ≡ e.count = ap size_of (held_at es rs i n whole.apart l stands) ∙ (length-map (old es rs i) (meant (length (items e.kinds))) ∙ old_length es rs i whole l) in (
       subst (λ x. Sound x rs') (sym p) sound,
       record {
         only = record { here = ap (λ g. g n) t' ∙ o.here; other = λ m ne. ap (λ g. g m) t' ∙ o.other m ne };

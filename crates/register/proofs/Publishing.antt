@@ -7,7 +7,8 @@ use Rattle.relation.specs.declared.rows.Row.{Row}
 use Rattle.relation.specs.declared.kinds.Kind.TheVariants.{Number}
 use Rattle.relation.specs.Bounds.{most_entries, most_stored}
 use Rattle.relation.specs.Rows.{SpecRow, Lists, on}
-use Rattle.relation.specs.Stored.{listed, meant, stored, blank_row}
+use Rattle.relation.specs.Few.{items}
+use Rattle.relation.specs.Stored.{meant, stored, blank_row}
 use Rattle.relation.proofs.Firsts.{length_firsts}
 use Rattle.register.specs.declared.entries.Mark.TheVariants.{Draft, Published}
 use Rattle.register.specs.declared.entries.Entry.{Entry}
@@ -23,7 +24,7 @@ use Rattle.register.proofs.Tabled.{list_short, list_good, every_all, stored_back
 
 pub publish_result : (s t : Store) (i at u : ℕ) (list : List SpecRow) (new : List Row) → Whole s → i < most_entries → mark_at s i ≡ Draft →
     at ≡ total (take i s.directory.entries) → u ≡ used s → new ≡ map stored list →
-    Lists list (on (map (meant (get_or s.directory.entries i free).kinds.count) (old s.directory.entries s.rows.now i))) →
+    Lists list (on (map (meant (length (items (get_or s.directory.entries i free).kinds))) (old s.directory.entries s.rows.now i))) →
     t.directory.entries ≡ set s.directory.entries i (issued_entry (get_or s.directory.entries i free) (length list)) →
     t.rows.now ≡ replaced s.rows.now at (get_or s.directory.entries i free).count new u blank_row →
     (Whole t) × Issued s t (code_at s i) (length list)
@@ -33,7 +34,7 @@ publish_result s t i at u list new whole h draft a b n lists p q =
     let rs' = t.rows.now in
     let e = get_or es i free in
     let e' = issued_entry e (length list) in
-    let ks = listed e.kinds in
+    let ks = items e.kinds in
     let c = e.count in
     let f = total (take i es) in
     let r = total (drop (suc i) es) in
@@ -42,11 +43,11 @@ publish_result s t i at u list new whole h draft a b n lists p q =
     let b' : u ≡ f + (c + r) = b ∙ w in
     let k : u ≤ length rs = omega (arith, whole.room) in
     let g = good_at es rs i whole l (ap is_free draft) in
-    let xs = map (meant e.kinds.count) (old es rs i) in
-    let fine = list_good ks (map (meant e.kinds.count) (old es rs i)) list g.rows_good lists in
-    let back : map (meant e.kinds.count) (map stored list) ≡ list = stored_back ks e.kinds.count list (length_firsts e.kinds.count e.kinds.at Number) (whole.wide i) fine in
+    let xs = map (meant (length (items e.kinds))) (old es rs i) in
+    let fine = list_good ks (map (meant (length (items e.kinds))) (old es rs i)) list g.rows_good lists in
+    let back : map (meant (length (items e.kinds))) (map stored list) ≡ list = stored_back ks (length (items e.kinds)) list (length_firsts (length (items e.kinds)) e.kinds.at Number) (whole.wide i) fine in
     let size : length (map stored list) ≡ length list = length-map list stored in
-    let short : length list ≤ c = let z = list_short ks (map (meant e.kinds.count) (old es rs i)) list g.rows_good lists in let y : length (map (meant e.kinds.count) (old es rs i)) ≡ c = length-map (old es rs i) (meant e.kinds.count) ∙ old_length es rs i whole l in omega arith in
+    let short : length list ≤ c = let z = list_short ks (map (meant (length (items e.kinds))) (old es rs i)) list g.rows_good lists in let y : length (map (meant (length (items e.kinds))) (old es rs i)) ≡ c = length-map (old es rs i) (meant (length (items e.kinds))) ∙ old_length es rs i whole l in omega arith in
     let less : length new ≤ c = omega (arith, ap length n) in
     let news : length list ≡ length new = sym (ap length n ∙ size) in
     let changed : parts (set es i e') rs' ≡ set (parts es rs) i (entry_part e' new) =
@@ -57,8 +58,8 @@ publish_result s t i at u list new whole h draft a b n lists p q =
     let t1 : total (set es i e') + c ≡ total es + length list = total_set es i e' l in
     let good : good_part (entry_part e' new) ≡ true = good_from e' new (record {
       few = g.few;
-      rows_good = ap (λ x. list_all (good_row ks) (map (meant e.kinds.count) x)) n ∙ (ap (list_all (good_row ks)) back ∙ every_all (good_row ks) list fine);
-      ordered = ap (λ x. is_listed (map (meant e.kinds.count) x)) n ∙ (ap is_listed back ∙ listed_test list lists.canonical.listed);
+      rows_good = ap (λ x. list_all (good_row ks) (map (meant (length (items e.kinds))) x)) n ∙ (ap (list_all (good_row ks)) back ∙ every_all (good_row ks) list fine);
+      ordered = ap (λ x. is_listed (map (meant (length (items e.kinds))) x)) n ∙ (ap is_listed back ∙ listed_test list lists.canonical.listed);
     }) in
     let stands : bearer e e.name.code ≡ true = draft_bears e draft in
     let made = change_result s t i e' new whole h stands refl (λ m. ap (λ x. bears x e.name.code m) (sym draft)) refl news p changed
@@ -70,7 +71,7 @@ publish_result s t i at u list new whole h draft a b n lists p q =
     long past good in
     let o : held s e.name.code ≡ Some (entry_part e (old es rs i)) = held_at es rs i e.name.code whole.apart l stands in
     let same : issued list (held s e.name.code) ≡ Some (entry_part e' new) =
-    ap (issued list) o ∙ (λ j. Some (record { name = e.name.code; mark = Published; kinds = ks; rows = (sym (ap (map (meant e.kinds.count)) n ∙ back)) j })) in (
+    ap (issued list) o ∙ (λ j. Some (record { name = e.name.code; mark = Published; kinds = ks; rows = (sym (ap (map (meant (length (items e.kinds)))) n ∙ back)) j })) in (
       made.0,
       record {
         list = list;
@@ -109,6 +110,6 @@ kept_in s i k work work' index index' whole h draft l =
     let z : length (take (k - 0) work') ≡ k = ap length f ∙ sym n in
     let y : length (take (k - 0) work') ≡ min (k - 0) (length work') = length-take (k - 0) work' in
     let g = good_at es rs i whole b (ap is_free draft) in
-    let short = list_short (listed e.kinds) (map (meant e.kinds.count) (old es rs i)) list g.rows_good l.part.lists in
-    let c : length (map (meant e.kinds.count) (old es rs i)) ≡ e.count = length-map (old es rs i) (meant e.kinds.count) ∙ old_length es rs i whole b in
+    let short = list_short (items e.kinds) (map (meant (length (items e.kinds))) (old es rs i)) list g.rows_good l.part.lists in
+    let c : length (map (meant (length (items e.kinds))) (old es rs i)) ≡ e.count = length-map (old es rs i) (meant (length (items e.kinds))) ∙ old_length es rs i whole b in
     (omega arith, f, omega (arith, l.part.count))

@@ -1,7 +1,6 @@
 -- What a row that passed its tests is.
 use Rattle.std.proofs.Common.{◌≡◌, ℕ, true, List, length, Some, None, Option, sym, refl, ap, ◌∙◌, arith}
 use Rattle.std.proofs.lemmas.Bool.{and_from}
-use Rattle.relation.specs.declared.columns.Kinds.{Kinds}
 use Rattle.relation.specs.declared.kinds.Kind.{Kind}
 use Rattle.relation.specs.declared.kinds.Kind.TheVariants.{Number}
 use Rattle.relation.specs.declared.rows.Row.{Row}
@@ -9,7 +8,7 @@ use Rattle.relation.specs.declared.refusals.Reason.{Reason}
 use Rattle.relation.specs.declared.refusals.Refusal.{Refusal}
 use Rattle.relation.specs.Refusals.{plain?}
 use Rattle.relation.specs.Rows.{is_period}
-use Rattle.relation.specs.Stored.{listed, meant}
+use Rattle.relation.specs.Stored.{meant}
 use Rattle.relation.proofs.Firsts.{length_firsts}
 use Rattle.source.specs.Meaning.{fits}
 use Rattle.layers.specs.Alike.{same_kinds}
@@ -31,10 +30,10 @@ pub or_none : (q o : Option Reason) → None ≡ plain? q → or_else q o ≡ o
 or_none q o h = ap (λ x. or_else x o) (plain_none q h)
 
 -- a row that is not refused may stand in the relation
-pub row_good : (ks : Kinds) (given : List Kind) (row : Row) → row_no (listed ks) given row ≡ None → good_row (listed ks) (meant ks.count row) ≡ true
+pub row_good : (ks : List Kind) (given : List Kind) (row : Row) → row_no ks given row ≡ None → good_row ks (meant (length ks) row) ≡ true
 row_good ks given row h =
-    let a = passed (same_kinds (listed ks) given) _ _ h in
+    let a = passed (same_kinds ks given) _ _ h in
     let b = passed (is_period row.first row.end) _ _ a.1 in
-    let c = passed (fits (listed ks) (meant (length (listed ks)) row).tuple) _ _ b.1 in
-    and_from (is_period row.first row.end) (fits (listed ks) (meant ks.count row).tuple) b.0
-    (ap (λ n. fits (listed ks) (meant n row).tuple) (sym (length_firsts ks.count ks.at Number)) ∙ c.0)
+    let c = passed (fits ks (meant (length ks) row).tuple) _ _ b.1 in
+    and_from (is_period row.first row.end) (fits ks (meant (length ks) row).tuple) b.0
+    (ap (λ n. fits ks (meant n row).tuple) (sym (length_firsts (length ks) ks.at Number)) ∙ c.0)

@@ -2,7 +2,8 @@ use Rattle.std.specs.List.{list_all}
 use Rattle.std.proofs.Common.{◌<◌, List, map, length, get_or, ap, ◌∙◌, subst, arith}
 use Rattle.relation.specs.declared.rows.Row.{Row}
 use Rattle.relation.specs.Rows.{on}
-use Rattle.relation.specs.Stored.{listed, meant}
+use Rattle.relation.specs.Few.{items}
+use Rattle.relation.specs.Stored.{meant}
 use Rattle.collect.specs.Collects.{Collects}
 use Rattle.register.specs.Layout.{free, is_free, good_row}
 use Rattle.register.specs.Refusals.{work_no}
@@ -26,7 +27,7 @@ coalesce_part-requires c =
       within = p.0;
       places = p.1;
       few = g.few;
-      good = ap (λ (x : List Row). list_all (good_row (listed e.kinds)) (map (meant e.kinds.count) x)) p.2 ∙ g.rows_good;
+      good = ap (λ (x : List Row). list_all (good_row (items e.kinds)) (map (meant (length (items e.kinds))) x)) p.2 ∙ g.rows_good;
     }
 
 pub returns : goal.returns
@@ -37,4 +38,4 @@ returns c =
     let e = get_or es i free in
     let l : i < length es = omega (arith, c.requires.whole.all, c.requires.within) in
     let p = part_in es s.rows.now i c.capacity-capacity.result c.start-at.result c.requires.whole l c.capacity-capacity.ensures c.start-at.ensures in
-    subst (λ (x : List Row). Collects (work_no (length (map (meant e.kinds.count) x)) c.args.work.now c.args.index.now) (on (map (meant e.kinds.count) x)) c.args.work.now c.args.index.now c.coalesce_part.result c.coalesce_part.new.work c.coalesce_part.new.index) p.2 c.coalesce_part.ensures
+    subst (λ (x : List Row). Collects (work_no (length (map (meant (length (items e.kinds))) x)) c.args.work.now c.args.index.now) (on (map (meant (length (items e.kinds))) x)) c.args.work.now c.args.index.now c.coalesce_part.result c.coalesce_part.new.work c.coalesce_part.new.index) p.2 c.coalesce_part.ensures

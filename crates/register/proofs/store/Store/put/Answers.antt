@@ -4,7 +4,7 @@ use Rattle.std.proofs.lemmas.Bool.{cond-true, cond-false, lt-ltb, le-ltb, not_fr
 use Rattle.relation.specs.declared.refusals.Reason.{Reason}
 use Rattle.relation.specs.declared.refusals.Reason.TheVariants as no
 use Rattle.relation.specs.Refusals.{plain?}
-use Rattle.relation.specs.Stored.{listed}
+use Rattle.relation.specs.Few.{items}
 use Rattle.register.specs.Layout.{free}
 use Rattle.register.specs.State.{held, used, rows_of, Leaves, added, size_of}
 use Rattle.register.specs.Refusals.{row_no, slip_fits}
@@ -29,7 +29,7 @@ returns-in_err-check_row c =
     let s = c.args.self.now in
     let room : Option Reason = cond (not (ltb (used s) (rows_of s))) (Some no.NoRow) None in
     let q = put_no_lem c.args.number s c.args.slip.now c.args.row c.args.kinds.now c.in-Some.i c.requires c.in-Some.ensures in
-    rw (p.1, p.2) (record { whole = c.requires; refused = or_else_lem (row_no (listed (get_or s.directory.entries c.in-Some.i free).kinds) c.args.kinds.now c.args.row) _ room h ∙ sym (ap plain? q); after = refl })
+    rw (p.1, p.2) (record { whole = c.requires; refused = or_else_lem (row_no (items (get_or s.directory.entries c.in-Some.i free).kinds) c.args.kinds.now c.args.row) _ room h ∙ sym (ap plain? q); after = refl })
 
 pub returns-then-sum-capacity : goal.returns-then-sum-capacity
 returns-then-sum-capacity c =
