@@ -1,13 +1,16 @@
 -- What a change of one entry and of its rows leaves of the parts.
-use Rattle.std.proofs.Common.{◌≡◌, ℕ, zero, suc, ◌+◌, ◌<◌, ◌≤◌, true, false, List, [], ◌∷◌, ◌++◌, length, get_or, take, drop, set, sym, refl, ap, ◌∙◌, add_assoc, zero-add, arith}
+use Rattle.std.proofs.Common.{◌≡◌, ℕ, zero, suc, ◌+◌, ◌<◌, ◌≤◌, true, false, List, [], ◌∷◌, ◌++◌, length, get_or, take, drop, set, Some, sym, refl, ap, ◌∙◌, add_assoc, zero-add, arith}
+use Rattle.std.proofs.lemmas.List.Quantifiers.{position-Some}
 use Rattle.std.proofs.lemmas.List.Sums.{sum_by-cons}
-use Rattle.std.proofs.lemmas.List.{take-take, drop-drop, drop-take, take_at, drop_at}
+use Rattle.std.proofs.lemmas.List.{length-take, take-take, drop-drop, drop-take, take_at, drop_at}
 use Rattle.relation.specs.declared.rows.Row.{Row}
+use Rattle.relation.specs.declared.few.Few.{Few}
+use Rattle.relation.specs.Few.{items}
 use Rattle.register.specs.declared.entries.Entry.{Entry}
 use Rattle.std.proofs.lemmas.Bool.{both_ways}
 use Rattle.register.specs.declared.entries.Mark.{Mark}
 use Rattle.register.specs.declared.entries.Mark.TheVariants.{Free, Draft, Published}
-use Rattle.register.specs.Layout.{entry_part, parts, total, is_free}
+use Rattle.register.specs.Layout.{entry_part, parts, total, is_free, free, first_free}
 
 -- one entry more
 pub total_cons : (x : Entry) (xs : List Entry) → total (x ∷ xs) ≡ x.count + total xs
@@ -67,3 +70,11 @@ pub free_from : (m : Mark) → is_free m ≡ true → m ≡ Free
 free_from Free h = refl
 free_from Draft h = absurd (both_ways false refl h)
 free_from Published h = absurd (both_ways false refl h)
+
+-- an entry's kinds are few
+pub few_items : {X : Type 0} {n : ℕ} (f : Few X n) → length (items f) ≤ n
+few_items f = let h = f.within in simp length-take (omega arith)
+
+-- the first free entry
+pub spare_at : (es : List Entry) (i : ℕ) → first_free es ≡ Some i → (i < length es) × ((get_or es i free).mark ≡ Free)
+spare_at es i h = let p = position-Some (λ (e : Entry). is_free e.mark) es i free h in (p.0, free_from (get_or es i free).mark p.1)

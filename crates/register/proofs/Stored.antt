@@ -1,11 +1,13 @@
 -- Names and kinds as they are stored.
 use Rattle.std.specs.List.{list_all}
-use Rattle.std.proofs.Common.{◌≡◌, ℕ, zero, suc, ◌+◌, ◌^◌, ◌<◌, Bool, true, false, cond, not, ◌&&◌, T, leb, List, [], ◌∷◌, ◌++◌, length, get_or, ℤ, pos, negsuc, nat_abs, Some, None, sym, refl, ap, ◌∙◌, subst, ap₂, inl, inr, add-one, arith, w64, Fits, SFits, to_z, of_z}
+use Rattle.std.proofs.Common.{◌≡◌, ℕ, ◌^◌, ◌<◌, Bool, true, false, cond, not, ◌&&◌, T, leb, List, [], ◌∷◌, length, get_or, ℤ, pos, nat_abs, Some, None, sym, refl, subst, ap₂, inl, inr, arith, w64, Fits}
 use Rattle.std.specs.Int.Signed.{non_neg}
 use Rattle.std.specs.Char.{is_ascii_lowercase, is_ascii_digit, is_ascii_alphanumeric}
-use Rattle.std.proofs.lemmas.Int.{to_z-of_z}
 use Rattle.std.proofs.lemmas.Bool.{and_parts, and_from, or_cases, or_left, or_right}
 use Rattle.relation.specs.declared.kinds.Kind.{Kind}
+use Rattle.relation.specs.declared.kinds.Kind.TheVariants.{Number, Word}
+use Rattle.relation.specs.Kinds.{same_kind}
+use Rattle.std.specs.Cmp.Lexicographic.{pointwise}
 use Rattle.relation.specs.declared.rows.Row.{Row}
 use Rattle.relation.specs.declared.refusals.Reason.TheVariants as no
 use Rattle.relation.specs.Rows.{is_period}
@@ -15,7 +17,6 @@ use Rattle.relation.proofs.Spelled.{value_from_word, word_below, words_inverse}
 use Rattle.source.specs.Meaning.{fits}
 use Rattle.layers.specs.Alike.{same_kinds}
 use Rattle.words.specs.Name.{name_byte, is_name}
-use Rattle.register.specs.Layout.{is_zero}
 use Rattle.register.specs.Refusals.{rest_zero, row_no}
 
 -- ---- names are words
@@ -56,15 +57,21 @@ names_apart a b p q e = words_inverse.one_word a b (name_word a p) (name_word b 
 pub cast_is : (z : ℤ) (n : ℕ) → z ≡ pos n → n < 2 ^ 63 → T (non_neg z) × Fits w64 (nat_abs z)
 cast_is z n e h = subst (λ x. T (non_neg x) × Fits w64 (nat_abs x)) (sym e) (tt, omega arith)
 
--- ---- zeros
+-- ---- kinds one by one
 
-pub zero_is : (z : ℤ) → SFits w64 z → of_z w64 z ≡ 0 → true ≡ is_zero z
-zero_is z f e = sym (ap is_zero (sym (to_z-of_z w64 z f) ∙ ap (to_z w64) e))
-
-pub zero_not : (z : ℤ) → (of_z w64 z ≡ 0 → ⊥) → false ≡ is_zero z
-zero_not (pos zero) h = absurd (h refl)
-zero_not (pos (suc n)) h = refl
-zero_not (negsuc n) h = refl
+-- slices of kinds that are compared
+pub pointwise_kinds : (E : Kind → Kind → Bool) → E Number Number ≡ true → E Number Word ≡ false → E Word Number ≡ false → E Word Word ≡ true →
+    (ks ls : List Kind) → pointwise E ks ls ≡ same_kinds ks ls
+pointwise_kinds E a b c d [] [] = refl
+pointwise_kinds E a b c d [] (l ∷ ls) = refl
+pointwise_kinds E a b c d (k ∷ ks) [] = refl
+pointwise_kinds E a b c d (k ∷ ks) (l ∷ ls) = ap₂ ◌&&◌ (one k l) (pointwise_kinds E a b c d ks ls)
+  where
+    one : (k l : Kind) → E k l ≡ same_kind k l
+    one Number Number = a
+    one Number Word = b
+    one Word Number = c
+    one Word Word = d
 
 -- ---- why a row is refused, test by test
 

@@ -8,14 +8,12 @@ use Rattle.std.specs.Ordering.{is_lt, int_cmp}
 use Rattle.std.proofs.ByRecursion.{All-get_or, All-from_get_or}
 use Rattle.relation.specs.declared.rows.Row.{Row}
 use Rattle.relation.specs.declared.kinds.Kind.{Kind}
-use Rattle.relation.specs.declared.kinds.Kind.TheVariants.{Number}
 use Rattle.relation.specs.declared.refusals.Refusal.{Refusal}
 use Rattle.relation.specs.Bounds.{most_columns, most_stored}
 use Rattle.relation.specs.Rows.{SpecRow, Ahead, Listed, Day, Period, Holds, is_period, Lists, on}
 use Rattle.relation.specs.Stored.{meant, stored}
 use Rattle.relation.proofs.Every.{every_at}
 use Rattle.relation.proofs.Fewest.{fewest}
-use Rattle.relation.proofs.Firsts.{length_firsts}
 use Rattle.relation.specs.Sets.{equal}
 use Rattle.relation.proofs.TupleSets.{equal_decides}
 use Rattle.relation.proofs.Held.{In, day_set}
@@ -102,7 +100,6 @@ module _ (rows : List Row) (start len : ℕ) (ks : List Kind) (within : start + 
   pub table_good : (ordered : Bool) → length rows ≤ most_stored → is_few ks ≡ true → list_all (good_row ks) (part_of ks start len rows) ≡ true →
       (ordered ≡ true → is_listed (part_of ks start len rows) ≡ true) → TableOk rows start len ks ordered
   table_good ordered few_rows few good order =
-      let n = length_firsts (length ks) ks.at Number in
       let c = and_parts (leb 1 (length ks)) (leb (length ks) most_columns) few in
       let low = leb-true 1 (length ks) c.0 in
       let high = leb-true (length ks) most_columns c.1 in
@@ -166,9 +163,9 @@ stored_back ks c (r ∷ list) e few h =
     ap₂ ◌∷◌ (meant_stored c r few (fits_length ks r.tuple f ∙ e)) (stored_back ks c list e few h.1)
 
 -- the front of a work area
-pub front_is : {X : Type 0} (work new rest : List X) (c n : ℕ) → take c work ≡ new ++ rest → n ≡ length new → take (n - 0) work ≡ new
+pub front_is : {X : Type 0} (work new rest : List X) (c n : ℕ) → take c work ≡ new ++ rest → n ≡ length new → take n work ≡ new
 front_is work new rest c n e k =
     let z : length (take c work) ≡ length new + length rest = ap length e ∙ length-append new rest in
     let w : length (take c work) ≡ min c (length work) = length-take c work in
     let le : n ≤ c = omega arith in
-    ap (λ j. take j work) {x = n - 0} {y = n} (omega arith) ∙ (sym (take-take n c work le) ∙ (ap (take n) e ∙ take_at new rest n (sym k)))
+    sym (take-take n c work le) ∙ (ap (take n) e ∙ take_at new rest n (sym k))

@@ -1,5 +1,5 @@
 // The directory: the names in use, each with its mark, its kinds and how many rows it has.
-ghost use Rattle.std.specs.Prelude.{◌≡◌, ◌+◌, ◌<◌, true, false, get_or, replicate, MatchResult, slice_index_or, slice_set};
+ghost use Rattle.std.specs.Prelude.{◌≡◌, ◌+◌, ◌<◌, true, false, get_or, replicate, MatchResult, slice_index_or, slice_set, Decides};
 ghost use Rattle.relation.specs.Few.{items};
 ghost use Rattle.relation.specs.Values.{word};
 ghost use Rattle.words.specs.Name.{is_name};
@@ -39,6 +39,7 @@ pub struct Entry {
     pub(crate) count: usize,
 }
 
+// A table of entries that lies in place, since nothing is allocated. An entry is changed inside a method alone, and never handed out to be changed.
 #[derive(Clone, Copy)]
 pub struct Directory {
     pub(crate) entries: [Entry; ENTRIES],
@@ -84,6 +85,13 @@ impl Entry {
         }
     }
 
+    // Whether the entry has the mark.
+    pub fn is_marked(&self, mark: Mark) -> bool
+        ensures { Decides result (self.now.mark ≡ mark) }
+    {
+        self.mark == mark
+    }
+
     // Whether the entry is in use under the name.
     pub fn answers_to(&self, name: Name) -> bool
         ensures { result ≡ bearer self.now name.code }
@@ -100,6 +108,14 @@ impl Directory {
         Directory {
             entries: [Entry::free(); ENTRIES],
         }
+    }
+
+    // The entry at a place.
+    pub fn at(&self, i: usize) -> Entry
+        requires { i < most_entries }
+        ensures { result ≡ get_or self.now.entries i free }
+    {
+        self.entries[i]
     }
 
     // Puts an entry at a place.

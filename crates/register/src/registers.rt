@@ -95,6 +95,7 @@ impl<'a> Register<'a> {
             blank_work(work, index);
             return Err((Reason::SlipMisfit.into(), slip));
         };
+        // The slip is spent or handed back, so it goes another way in each arm.
         match self.store.publish(i, work, index) {
             Ok(kept) => {
                 let Slip {

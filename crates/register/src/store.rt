@@ -1,5 +1,6 @@
 // The rows that a register was lent, and the directory that shares them out.
 ghost use Rattle.std.specs.Prelude.{◌≡◌, ◌≢◌, ℕ, ◌<◌, ◌≤◌, true, false, length, drop, get_or, Some, None, MatchOption, MatchResult, slice_index_or};
+ghost use Rattle.std.specs.List.{list_all};
 ghost use Rattle.relation.specs.Bounds.{most_columns, most_entries};
 ghost use Rattle.relation.specs.Refusals.{plain?};
 ghost use Rattle.relation.specs.Rows.{on as day_sets};
@@ -8,9 +9,10 @@ ghost use Rattle.relation.specs.Stored.{meant, blank_row};
 ghost use Rattle.relation.specs.Values.{word};
 ghost use Rattle.collect.specs.Collects.{Collects, counted};
 ghost use Rattle.tree.specs.Trees.{blank as blank_node};
+ghost use Rattle.layers.specs.Alike.{same_kinds};
 ghost use Rattle.relation.specs.declared.refusals.Reason.TheVariants as no;
 ghost use Rattle.register.specs.declared.entries.Mark.TheVariants.{Draft, Published};
-ghost use Rattle.register.specs.Layout.{free, bearer, is_few, good_row};
+ghost use Rattle.register.specs.Layout.{free, bearer, is_few, is_zero, good_row};
 ghost use Rattle.register.specs.State.{held, used, rows_of, Whole, Leaves, added, size_of, mark_of, code_at, mark_at, rows_at, Put, Drafted, Issued, is_there, blanked};
 ghost use Rattle.register.specs.Refusals.{err_of, rest_zero, row_no, slip_fits, put_no, draft_no, drop_no, work_no, show_no, show_text, Shown};
 
@@ -28,6 +30,7 @@ use relation::rows::Row;
 use source::tables::fits_kinds;
 use tree::Node;
 
+// The register keeps the facts about a store, which fail here between the writes of the lent rows and of the directory.
 #[derive(Drop)]
 pub struct Store<'a> {
     pub(crate) rows: &'a mut [Row],
@@ -44,12 +47,26 @@ fn few(kinds: &[Kind]) -> Option<Kinds>
     Kinds::from_slice(kinds, Kind::Number)
 }
 
+// Whether every value is 0.
+fn all_zero(values: &[i64]) -> bool
+    ensures { result ≡ list_all is_zero values.now }
+{
+    values.iter().all(|value| *value == 0)
+}
+
 // Whether every value past the first `columns` is 0.
 fn rest_zero(row: &Row, columns: usize) -> bool
     requires { columns ≤ most_columns }
     ensures { result ≡ rest_zero columns row.now }
 {
-    row.values[columns..].iter().all(|value| *value == 0)
+    all_zero(&row.values[columns..])
+}
+
+// Whether the given kinds are those of the columns.
+fn same_kinds(kinds: &[Kind], given: &[Kind]) -> bool
+    ensures { result ≡ same_kinds kinds.now given.now }
+{
+    kinds == given
 }
 
 // Whether a row of the given kinds may stand in a relation of these kinds.
@@ -57,7 +74,7 @@ fn check_row(kinds: &[Kind], given: &[Kind], row: &Row) -> Result<(), Reason>
     requires { length kinds.now ≤ most_columns }
     ensures { err_of result ≡ row_no kinds.now given.now row.now }
 {
-    if kinds != given {
+    if !same_kinds(kinds, given) {
         return Err(Reason::Misfit);
     }
     if !is_period(row.first, row.end) {
@@ -79,10 +96,10 @@ impl<'a> Store<'a> {
         ensures { MatchOption result (mark_of (held self.now name.code) ≢ Some mark) (λ i. (mark_of (held self.now name.code) ≡ Some mark) × (i < most_entries) × (mark_at self.now i ≡ mark) × (code_at self.now i ≡ name.code)) }
     {
         let i = find(&self.directory.entries, name)?;
-        (self.directory.entries[i].mark == mark).then_some(i)
+        self.directory.at(i).is_marked(mark).then_some(i)
     }
 
-    // The place of the draft that the slip is for, at the register of that number.
+    // The place of the draft that the slip is for. The number is the register's own, and the slip comes back from a caller.
     pub fn draft_of(&self, number: u64, slip: &Slip) -> Option<usize>
         requires { Whole self.now }
         ensures { MatchOption result (slip_fits number self.now slip.now ≡ false) (λ i. (slip_fits number self.now slip.now ≡ true) × (i < most_entries) × (mark_at self.now i ≡ Draft) × (code_at self.now i ≡ slip.now.name.code)) }
@@ -110,7 +127,7 @@ impl<'a> Store<'a> {
     {
         let i = self.published_at(name).ok_or(Reason::Name)?;
         let at = start(&self.directory.entries, i);
-        let entry = self.directory.entries[i];
+        let entry = self.directory.at(i);
         let rows = &self.rows[at..at + entry.count];
         write_list(name, entry.kinds.as_slice(), rows, output)
     }
@@ -157,7 +174,7 @@ impl<'a> Store<'a> {
     {
         let capacity = self.capacity();
         let at = start(&self.directory.entries, i);
-        let entry = self.directory.entries[i];
+        let entry = self.directory.at(i);
         let rows = &self.rows[..capacity];
         let kinds = entry.kinds.as_slice();
         coalesce_part(rows, at, entry.count, kinds, work, index)
@@ -165,12 +182,7 @@ impl<'a> Store<'a> {
 
     // Puts the canonical list of a draft's rows, which it leaves in the work area too, in their place, marks it
     // as published, and answers how many rows it has.
-    fn issue(
-        &mut self,
-        i: usize,
-        work: &mut [Row],
-        index: &mut [Node],
-    ) -> Result<usize, Refusal>
+    fn issue(&mut self, i: usize, work: &mut [Row], index: &mut [Node]) -> Result<usize, Refusal>
         requires whole { Whole self.old }
         requires within { i < most_entries }
         requires draft { mark_at self.old i ≡ Draft }
@@ -183,7 +195,7 @@ impl<'a> Store<'a> {
         let kept = self.coalesce(i, work, index)?;
         let used = sum(&self.directory.entries);
         let at = start(&self.directory.entries, i);
-        let count = self.directory.entries[i].count;
+        let count = self.directory.at(i).count;
         replace(self.rows, at, count, &work[..kept], used);
         self.directory.publish(i, kept);
         Ok(kept)
@@ -260,7 +272,7 @@ impl<'a> Store<'a> {
         ensures after { MatchResult result (λ k. Put self.old self.new slip.now.name.code row k) (λ _. self.new ≡ self.old) }
     {
         let i = self.draft_of(number, slip).ok_or(Reason::SlipMisfit)?;
-        let entry = self.directory.entries[i];
+        let entry = self.directory.at(i);
         check_row(entry.kinds.as_slice(), kinds, &row)?;
         if sum(&self.directory.entries) >= self.capacity() {
             return Err(Reason::NoRow.into());

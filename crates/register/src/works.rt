@@ -1,4 +1,4 @@
-// Work areas.
+// Work areas: rows and an index, two areas that a caller lends, each of which can be too short by itself.
 ghost use Rattle.std.specs.List.{list_all};
 ghost use Rattle.std.specs.Prelude.{◌≡◌, ◌+◌, ◌≤◌, true, length};
 ghost use Rattle.relation.specs.Bounds.{most_stored};
@@ -38,19 +38,13 @@ pub fn coalesce_part(
     collect(&table, work, index)
 }
 
-// Blanks the part of an area that counts.
-fn blank<T: Copy>(area: &mut [T], entry: T)
-    ensures { area.new ≡ blanked entry area.old }
-{
-    let end = area.len().min(MOST_WORK);
-    area[..end].fill(entry);
-}
-
 // Blanks the part of a work area that counts.
 pub fn blank_work(work: &mut [Row], index: &mut [Node])
     ensures work { work.new ≡ blanked blank_row work.old }
     ensures index { index.new ≡ blanked blank_node index.old }
 {
-    blank(work, Row::blank());
-    blank(index, Node::blank());
+    let rows_end = work.len().min(MOST_WORK);
+    work[..rows_end].fill(Row::blank());
+    let index_end = index.len().min(MOST_WORK);
+    index[..index_end].fill(Node::blank());
 }
