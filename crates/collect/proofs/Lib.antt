@@ -1,5 +1,5 @@
 pub mod Written
-pub mod Skips
+pub mod Rowcount
 pub mod Filling
 pub mod Swaps
 pub mod Moving

@@ -1,16 +1,17 @@
 -- Lemmas on sources and tables whose tuples rise from place to place.
-use Rattle.std.proofs.Common.{◌≡◌, ℕ, zero, suc, ◌+◌, ◌-◌, ◌<◌, ◌≤◌, min, true, false, List, [], ◌∷◌, map, length, get_or, take, drop, Some, Ordering, Less, Equal, Greater, sym, refl, ap, ◌∙◌, subst, ap₂, inl, inr, ⊎_elim, arith}
+use Rattle.std.proofs.Common.{◌≡◌, ℕ, zero, suc, ◌+◌, ◌-◌, ◌<◌, ◌≤◌, min, Bool, true, false, not, Decides, List, [], ◌∷◌, map, length, get_or, take, drop, Some, Ordering, Less, Equal, Greater, sym, refl, ap, ◌∙◌, subst, ap₂, inl, inr, ⊎_elim, arith}
 use Rattle.std.specs.Ordering.{is_lt, is_eq, int_cmp}
 use Rattle.std.specs.Cmp.{int_cmp_total}
 use Rattle.std.specs.Cmp.Lexicographic.{slice_cmp, lists_total}
-use Rattle.std.specs.List.{AllAdjacentBelow}
+use Rattle.std.specs.List.{AllAdjacentBelow, IsAllAdjacentAnswer}
+use Rattle.std.specs.List.Sorted.{IsPartitionPoint, IsPartitionedBy}
 use Rattle.std.proofs.lemmas.List.MinMax.{ranks_by}
 use Rattle.std.proofs.ByRecursion.{All-get_or}
 use Rattle.std.proofs.lemmas.List.{get_or_default, get_or-map, get_or-take, get_or-drop, length-map, length-take, length-drop}
-use Rattle.std.proofs.lemmas.List.Sorted.{sorted_far, all_adjacent_more}
+use Rattle.std.proofs.lemmas.List.Sorted.{sorted_far}
 use Rattle.std.proofs.lemmas.Bool.{both_ways, cases_lt, true≢false, false≢true}
 use Rattle.relation.specs.declared.rows.Row.{Row}
-use Rattle.relation.specs.declared.columns.Kinds.{Kinds}
+use Rattle.relation.specs.declared.kinds.Kind.{Kind}
 use Rattle.relation.specs.Sets.{Tuple, Below}
 use Rattle.relation.specs.Lists.{Pairwise}
 use Rattle.relation.specs.Rows.{SpecRow, Ahead, Listed}
@@ -86,27 +87,39 @@ module _ (m : Meaning) (lead : Tuple) (low high r : ℕ) (b : LowerBound m lead 
 
 -- ---- rows that are looked at one after the other
 
+not_true : (b : Bool) → not b ≡ true → b ≡ false
+not_true true h = absurd (false≢true h)
+not_true false h = refl
+
+not_false : (b : Bool) → false ≡ not b → b ≡ true
+not_false true h = refl
+not_false false h = absurd (false≢true h)
+
 -- the tuple of b is not below that of a
 abbrev pub Level : ℕ → Row → Row → Type 0
 Level n a b = is_lt (slice_cmp int_cmp (meant n b).tuple (meant n a).tuple) ≡ false
 
-pub level_more : (n : ℕ) (rows : List Row) (i : ℕ) → 1 ≤ i → i < length rows → AllAdjacentBelow (Level n) rows i → false ≡ is_lt (slice_cmp int_cmp (meant n (get_or rows i no_row)).tuple (meant n (get_or rows (i - 1) no_row)).tuple) → AllAdjacentBelow (Level n) rows (i + 1)
-level_more n rows i some lt near e =
-    all_adjacent_more rows (Level n) i some near (λ d. ap₂ (λ a b. is_lt (slice_cmp int_cmp (meant n b).tuple (meant n a).tuple)) (get_or_default rows (i - 1) d no_row (omega arith)) (get_or_default rows i d no_row lt) ∙ sym e)
-
-module _ (rows : List Row) (ks : Kinds) where
-  pub rising_rows : AllAdjacentBelow (Level ks.count) rows (length rows) → Rising (table rows 0 (length rows) ks)
+module _ (rows : List Row) (ks : List Kind) where
+  pub rising_rows : AllAdjacentBelow (Level (length ks)) rows (length rows) → Rising (table rows 0 (length rows) ks)
   rising_rows near = record {
     rise = λ i j r s lt p q b.
         let f = filled_at rows 0 (length rows) ks i r p in
         let g = filled_at rows 0 (length rows) ks j s q in
-        let far = sorted_far (λ x y. is_lt (slice_cmp int_cmp (meant ks.count x).tuple (meant ks.count y).tuple)) (ranks_by (lists_total int_cmp_total) (λ x. (meant ks.count x).tuple)) rows (λ k d z h. near k d h) i j no_row (omega arith) g.below in
+        let far = sorted_far (λ x y. is_lt (slice_cmp int_cmp (meant (length ks) x).tuple (meant (length ks) y).tuple)) (ranks_by (lists_total int_cmp_total) (λ x. (meant (length ks) x).tuple)) rows (λ k d z h. near k d h) i j no_row (omega arith) g.below in
         both_ways _ far (ap₂ (λ x y. is_lt (slice_cmp int_cmp x.tuple y.tuple)) g.row f.row ∙ ap is_lt b);
   }
 
-  pub fallen : (i : ℕ) → 1 ≤ i → i < length rows → true ≡ is_lt (slice_cmp int_cmp (meant ks.count (get_or rows i no_row)).tuple (meant ks.count (get_or rows (i - 1) no_row)).tuple) → Rising (table rows 0 (length rows) ks) → ⊥
+  pub fallen : (i : ℕ) → 1 ≤ i → i < length rows → true ≡ is_lt (slice_cmp int_cmp (meant (length ks) (get_or rows i no_row)).tuple (meant (length ks) (get_or rows (i - 1) no_row)).tuple) → Rising (table rows 0 (length rows) ks) → ⊥
   fallen i some lt h rise =
       rise.rise (i - 1) i _ _ (omega arith) (sym (row_in rows 0 (length rows) ks (i - 1) no_row (omega arith) (omega arith) (omega arith))) (sym (row_in rows 0 (length rows) ks i no_row (omega arith) (omega arith) lt)) (is_less _ (sym h))
+
+  -- the tuple of b is not below that of a, as a test
+  abbrev pub rises : Row → Row → Bool
+  rises a b = not (is_lt (slice_cmp int_cmp (meant (length ks) b).tuple (meant (length ks) a).tuple))
+
+  pub order_told : (r : Bool) → IsAllAdjacentAnswer (λ a b t. t ≡ rises a b) rows r → Decides r (Rising (table rows 0 (length rows) ks))
+  order_told true near = (λ e. rising_rows (λ k d h. not_true _ (sym (near k d h))), λ rise. refl)
+  order_told false (k, lt, h) = (λ e. absurd (false≢true e), λ rise. absurd (fallen (k + 1) (omega arith) lt (sym (not_false _ (sym (ap (λ j. not (is_lt (slice_cmp int_cmp (meant (length ks) (get_or rows (k + 1) no_row)).tuple (meant (length ks) (get_or rows j no_row)).tuple))) (omega arith) ∙ sym (h no_row))))) rise))
 
 -- ---- rows that stand in listing order
 
@@ -120,19 +133,19 @@ ahead_rises : (r s : SpecRow) → Ahead r s → Below s.tuple r.tuple → ⊥
 ahead_rises r s (inl b) h = below_asym r.tuple s.tuple b h
 ahead_rises r s (inr e) h = below_irrefl s.tuple r.tuple (sym e.0) h
 
-module _ (rows : List Row) (start len : ℕ) (ks : Kinds) where
+module _ (rows : List Row) (start len : ℕ) (ks : List Kind) where
   abbrev part : List SpecRow
-  part = map (meant ks.count) (take len (drop start rows))
+  part = map (meant (length ks)) (take len (drop start rows))
 
   part_long : length part ≡ min len (length rows - start)
-  part_long = length-map (take len (drop start rows)) (meant ks.count) ∙ simp (length-take, length-drop)
+  part_long = length-map (take len (drop start rows)) (meant (length ks)) ∙ simp (length-take, length-drop)
 
   part_at : (k : ℕ) (w : SpecRow) → (table rows start len ks).at k ≡ Some w → get_or part (k - start) w ≡ w
   part_at k w e =
       let f = filled_at rows start len ks k w e in
       let back : start + (k - start) ≡ k = omega arith in
-      get_or-map (meant ks.count) (take len (drop start rows)) (k - start) no_row w (simp (length-take, length-drop) (omega arith))
-      ∙ ap (meant ks.count) (get_or-take len (drop start rows) (k - start) no_row (omega arith) ∙ get_or-drop start rows (k - start) no_row ∙ ap (λ x. get_or rows x no_row) back)
+      get_or-map (meant (length ks)) (take len (drop start rows)) (k - start) no_row w (simp (length-take, length-drop) (omega arith))
+      ∙ ap (meant (length ks)) (get_or-take len (drop start rows) (k - start) no_row (omega arith) ∙ get_or-drop start rows (k - start) no_row ∙ ap (λ x. get_or rows x no_row) back)
       ∙ f.row
 
   -- a part in listing order is a table whose tuples rise
@@ -144,4 +157,32 @@ module _ (rows : List Row) (start len : ℕ) (ks : Kinds) where
         let two : Ahead (get_or part (i - start) s) (get_or part (j - start) s) = pairwise_get_d Ahead part s (i - start) (j - start) ahead (omega arith) (omega (arith, part_long)) in
         let first : get_or part (i - start) s ≡ r = get_or_default part (i - start) s r (omega (arith, part_long)) ∙ part_at i r p in
         ahead_rises r s (subst (λ x. Ahead x s) first (subst (Ahead (get_or part (i - start) s)) (part_at j s q) two));
+  }
+
+-- ---- a search by halves over the rows from one place up to another
+
+module _ (rows : List Row) (start len : ℕ) (ks : List Kind) (lead : Tuple) (from past : ℕ) (xs : List Row) (order : Rising (table rows start len ks)) (after : start ≤ from) (within : past ≤ min (length rows) (start + len)) (long : length xs ≡ past - from) (at : (i : ℕ) (d : Row) → i < length xs → get_or xs i d ≡ get_or rows (from + i) d) where
+  abbrev pub below : Row → Bool
+  below w = is_lt (leading (meant (length ks) w).tuple lead)
+
+  pub place : (i : ℕ) (d : Row) → i < length xs → (table rows start len ks).at (from + i) ≡ Some (meant (length ks) (get_or xs i d))
+  place i d h = sym (row_in rows start len ks (from + i) d (omega arith) (omega (arith, long)) (omega (arith, long))) ∙ ap (λ w. Some (meant (length ks) w)) (sym (at i d h))
+
+  pub parted : IsPartitionedBy below xs
+  parted i j d le h e = ap is_lt (less_upto (table rows start len ks) lead order (from + i) (from + j) _ _ (omega arith) (place i d (omega arith)) (place j d h) (is_less _ e))
+
+  pub bound_found : (r : ℕ) → r ≤ length xs → IsPartitionPoint (λ w. below w ≡ true) (λ w. below w ≡ false) xs r → from ≤ past → LowerBound (table rows start len ks) lead from past (from + r)
+  bound_found r fits point le = record {
+    from = omega arith;
+    upto = omega (arith, long);
+    before = λ p w a b e.
+        let f = filled_at rows start len ks p w e in
+        let back : from + (p - from) ≡ p = omega arith in
+        let here : get_or xs (p - from) no_row ≡ get_or rows p no_row = at (p - from) no_row (omega (arith, long)) ∙ ap (λ i. get_or rows i no_row) back in
+        is_less _ (ap (λ v. is_lt (leading v.tuple lead)) (sym (ap (meant (length ks)) here ∙ f.row)) ∙ point.0 (p - from) no_row (omega arith) (omega arith));
+    after = λ p w a b e less.
+        let f = filled_at rows start len ks p w e in
+        let back : from + (p - from) ≡ p = omega arith in
+        let here : get_or xs (p - from) no_row ≡ get_or rows p no_row = at (p - from) no_row (omega (arith, long)) ∙ ap (λ i. get_or rows i no_row) back in
+        both_ways _ (ap (λ v. is_lt (leading v.tuple lead)) (sym (ap (meant (length ks)) here ∙ f.row)) ∙ point.1 (p - from) no_row (omega arith) (omega (arith, long))) (ap is_lt less);
   }

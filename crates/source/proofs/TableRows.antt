@@ -1,21 +1,21 @@
 -- Lemmas on a stored table.
+use Rattle.std.specs.List.{slice_get}
+use Rattle.std.proofs.lemmas.Option.{slice_get-get_or, slice_get_past}
 use Rattle.std.proofs.Common.{◌≡◌, ℕ, zero, suc, ◌+◌, ◌<◌, ◌≤◌, Bool, true, false, cond, ◌&&◌, ltb, leb, List, [], ◌∷◌, length, get_or, Some, None, Option, sym, refl, ap, subst, ⊎_elim, arith}
 use Rattle.std.proofs.lemmas.Bool.{and_parts, cases_lt, lt-ltb, le-leb, ltb-true, leb-true}
 use Rattle.relation.specs.declared.rows.Row.{Row}
-use Rattle.relation.specs.declared.columns.Kinds.{Kinds}
+use Rattle.relation.specs.declared.kinds.Kind.{Kind}
 use Rattle.relation.specs.Bounds.{most_columns, most_places}
 use Rattle.relation.specs.Rows.{SpecRow, is_period}
-use Rattle.relation.specs.Stored.{meant, listed}
-use Rattle.source.specs.Meaning.{nth, fits, Sound}
-use Rattle.relation.specs.declared.kinds.Kind.TheVariants.{Number}
+use Rattle.relation.specs.Stored.{meant}
+use Rattle.source.specs.Meaning.{fits, Sound}
 use Rattle.source.specs.Tables.{meant?, table, Good, no_row, all_periods, all_fit, no_table}
-use Rattle.source.proofs.Cells.{nth_at, nth_past, cond_some}
+use Rattle.source.proofs.Cells.{cond_some}
 use Rattle.relation.proofs.Every.{every_at}
-use Rattle.relation.proofs.Firsts.{length_firsts}
 
-module _ (rows : List Row) (start len : ℕ) (ks : Kinds) (k : ℕ) where
-  pub row_in : (d : Row) → start ≤ k → k < start + len → k < length rows → Some (meant ks.count (get_or rows k d)) ≡ (table rows start len ks).at k
-  row_in d a b h = rw (le-leb start k a, lt-ltb k (start + len) b, nth_at rows k d h)
+module _ (rows : List Row) (start len : ℕ) (ks : List Kind) (k : ℕ) where
+  pub row_in : (d : Row) → start ≤ k → k < start + len → k < length rows → Some (meant (length ks) (get_or rows k d)) ≡ (table rows start len ks).at k
+  row_in d a b h = rw (le-leb start k a, lt-ltb k (start + len) b, slice_get-get_or rows k d h)
 
   out : (b : Bool) (x : Option SpecRow) → (b ≡ true → x ≡ None) → None ≡ cond b x None
   out true x h = sym (h refl)
@@ -23,51 +23,51 @@ module _ (rows : List Row) (start len : ℕ) (ks : Kinds) (k : ℕ) where
 
   pub row_out : (start ≤ k → k < start + len → k < length rows → ⊥) → None ≡ (table rows start len ks).at k
   row_out apart =
-      out (leb start k && ltb k (start + len)) (meant? ks.count (nth rows k)) (λ e.
+      out (leb start k && ltb k (start + len)) (meant? (length ks) (slice_get rows k)) (λ e.
       let both = and_parts (leb start k) (ltb k (start + len)) e in
       let past : length rows ≤ k = ⊎_elim (λ h. absurd (apart (leb-true start k both.0) (ltb-true k (start + len) both.1) h)) (λ h. h) (cases_lt k (length rows)) in
-      ap (meant? ks.count) (nth_past rows k past))
+      ap (meant? (length ks)) (slice_get_past rows k past))
 
-some_row : (rows : List Row) (k : ℕ) (n : ℕ) (r : SpecRow) → meant? n (nth rows k) ≡ Some r → (k < length rows) × (meant n (get_or rows k no_row) ≡ r)
+some_row : (rows : List Row) (k : ℕ) (n : ℕ) (r : SpecRow) → meant? n (slice_get rows k) ≡ Some r → (k < length rows) × (meant n (get_or rows k no_row) ≡ r)
 some_row [] k n r h = let z : ◌≡◌ {A = ℕ} 0 1 = cc in absurd (omega arith)
 some_row (x ∷ xs) zero n r h = (omega arith, cc)
 some_row (x ∷ xs) (suc k) n r h = let t = some_row xs k n r h in (omega arith, t.1)
 
 -- what is known of a place that is filled
-pub record Filled (rows : List Row) (start len : ℕ) (ks : Kinds) (k : ℕ) (r : SpecRow) : Type 0 where
+pub record Filled (rows : List Row) (start len : ℕ) (ks : List Kind) (k : ℕ) (r : SpecRow) : Type 0 where
   pub from : start ≤ k
   pub upto : k < start + len
   pub below : k < length rows
-  pub row : meant ks.count (get_or rows k no_row) ≡ r
+  pub row : meant (length ks) (get_or rows k no_row) ≡ r
 
-pub filled_at : (rows : List Row) (start len : ℕ) (ks : Kinds) (k : ℕ) (r : SpecRow) → (table rows start len ks).at k ≡ Some r → Filled rows start len ks k r
+pub filled_at : (rows : List Row) (start len : ℕ) (ks : List Kind) (k : ℕ) (r : SpecRow) → (table rows start len ks).at k ≡ Some r → Filled rows start len ks k r
 filled_at rows start len ks k r p =
-    let c = cond_some (leb start k && ltb k (start + len)) (meant? ks.count (nth rows k)) r p in
+    let c = cond_some (leb start k && ltb k (start + len)) (meant? (length ks) (slice_get rows k)) r p in
     let both = and_parts (leb start k) (ltb k (start + len)) c.0 in
-    let row = some_row rows k ks.count r c.1 in
+    let row = some_row rows k (length ks) r c.1 in
     record { from = leb-true start k both.0; upto = ltb-true k (start + len) both.1; below = row.0; row = row.1 }
 
-pub few_columns : (rows : List Row) (start len : ℕ) (ks : Kinds) → Sound (table rows start len ks) → ks.count ≤ most_columns
-few_columns rows start len ks s = omega (arith, length_firsts ks.count ks.at Number, s.few_kinds)
+pub few_columns : (rows : List Row) (start len : ℕ) (ks : List Kind) → Sound (table rows start len ks) → length ks ≤ most_columns
+few_columns rows start len ks s = s.few_kinds
 
 -- a table is sound if its rows are good
-pub table_sound : (rows : List Row) (start len : ℕ) (ks : Kinds) → 1 ≤ ks.count → ks.count ≤ most_columns → length rows ≤ most_places
-    → ((i : ℕ) → i < start + len → start ≤ i → Good (listed ks) (meant ks.count (get_or rows i no_row))) → Sound (table rows start len ks)
+pub table_sound : (rows : List Row) (start len : ℕ) (ks : List Kind) → 1 ≤ length ks → length ks ≤ most_columns → length rows ≤ most_places
+    → ((i : ℕ) → i < start + len → start ≤ i → Good ks (meant (length ks) (get_or rows i no_row))) → Sound (table rows start len ks)
 table_sound rows start len ks some few many each = record {
-  some_kinds = omega (arith, length_firsts ks.count ks.at Number);
-  few_kinds = omega (arith, length_firsts ks.count ks.at Number);
+  some_kinds = some;
+  few_kinds = few;
   few = many;
   filled = λ k r p.
       let f = filled_at rows start len ks k r p in
-      let good = subst (Good (listed ks)) f.row (each k f.upto f.from) in
+      let good = subst (Good ks) f.row (each k f.upto f.from) in
       record { below = f.below; fitting = good.fitting; period = good.period };
 }
 
 -- rows that pass all tests are a table
-pub table_stands : (rows : List Row) (ks : Kinds) → 1 ≤ ks.count → ks.count ≤ most_columns → all_periods rows ≡ true → all_fit ks rows ≡ true → length rows ≤ most_places → (no_table rows ks ≡ None) × Sound (table rows 0 (length rows) ks)
+pub table_stands : (rows : List Row) (ks : List Kind) → 1 ≤ length ks → length ks ≤ most_columns → all_periods rows ≡ true → all_fit ks rows ≡ true → length rows ≤ most_places → (no_table rows ks ≡ None) × Sound (table rows 0 (length rows) ks)
 table_stands rows ks some few periods fit many = (
-  rw (le-leb 1 ks.count some, le-leb ks.count most_columns few, periods, fit, le-leb (length rows) most_places many),
+  rw (le-leb 1 (length ks) some, le-leb (length ks) most_columns few, periods, fit, le-leb (length rows) most_places many),
   table_sound rows 0 (length rows) ks some few many (λ i lt le.
       let p = and_parts _ _ (every_at (λ w. is_period w.first w.end) rows no_row i periods (omega arith)) in
-      record { fitting = every_at (λ w. fits (listed ks) (meant ks.count w).tuple) rows no_row i fit (omega arith); period = (ltb-true _ _ p.0, leb-true _ _ p.1) }),
+      record { fitting = every_at (λ w. fits ks (meant (length ks) w).tuple) rows no_row i fit (omega arith); period = (ltb-true _ _ p.0, leb-true _ _ p.1) }),
 )

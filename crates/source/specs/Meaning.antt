@@ -1,4 +1,5 @@
 -- What a source means: its kinds, and its places, each empty or filled with one row.
+use Rattle.std.specs.List.{slice_get}
 use Rattle.std.specs.Prelude.{◌≡◌, ℕ, zero, suc, ◌<◌, ◌≤◌, max, Bool, true, false, ◌&&◌, List, [], ◌∷◌, ◌++◌, length, ℤ, Some, None, Option}
 use Rattle.relation.specs.declared.kinds.Kind.{Kind}
 use Rattle.relation.specs.declared.rows.Row.{Row}
@@ -36,15 +37,10 @@ pub record Sound (m : Meaning) : Type 0 where
 
 -- ---- the questions
 
--- the element at a number that counts from 0, and that counts from 1
-abbrev pub nth : {X : Type 0} → List X → ℕ → Option X
-nth [] i = None
-nth (x ∷ xs) zero = Some x
-nth (x ∷ xs) (suc i) = nth xs i
-
+-- the element at a number that counts from 1
 abbrev pub cell : {X : Type 0} → List X → ℕ → Option X
 cell xs zero = None
-cell xs (suc c) = nth xs c
+cell xs (suc c) = slice_get xs c
 
 -- the kind of column c; columns count from 1
 abbrev pub kind_of : Meaning → ℕ → Option Kind

@@ -1,19 +1,19 @@
 -- What a table means: rows that lie beside each other in a lent area, one place for each row of the area.
+use Rattle.std.specs.List.{slice_get}
 use Rattle.std.specs.List.{list_all}
 use Rattle.std.specs.Prelude.{◌≡◌, ℕ, ◌+◌, ◌<◌, ◌≤◌, Bool, true, cond, not, ◌&&◌, List, [], length, take, Some, None, Option, ◌≢◌, nat_le, nat_lt}
 use Rattle.std.specs.declared.cmp.Ordering.TheVariants.{Less}
 use Rattle.std.specs.declared.cmp.Ordering.{Ordering}
 use Rattle.std.specs.Cmp.Lexicographic.{slice_cmp}
 use Rattle.relation.specs.declared.kinds.Kind.{Kind}
-use Rattle.relation.specs.declared.columns.Kinds.{Kinds}
 use Rattle.relation.specs.declared.rows.Row.{Row}
 use Rattle.relation.specs.declared.refusals.Reason.{Reason}
 use Rattle.relation.specs.declared.refusals.Reason.TheVariants.{Misfit, NoPeriod, OutOfBounds, TooManyPlaces}
 use Rattle.relation.specs.Bounds.{most_columns, most_places}
 use Rattle.relation.specs.Sets.{Tuple, Below}
 use Rattle.relation.specs.Rows.{SpecRow, Period, is_period}
-use Rattle.relation.specs.Stored.{listed, meant}
-use Rattle.source.specs.Meaning.{Meaning, Sound, NoneLed, Begins, nth, fits}
+use Rattle.relation.specs.Stored.{meant}
+use Rattle.source.specs.Meaning.{Meaning, Sound, NoneLed, Begins, fits}
 use Rattle.std.specs.Ordering.{int_cmp}
 
 abbrev pub meant? : ℕ → Option Row → Option SpecRow
@@ -21,11 +21,11 @@ meant? n None = None
 meant? n (Some w) = Some (meant n w)
 
 -- the rows from start on, len of them, are the table's
-abbrev pub table : List Row → ℕ → ℕ → Kinds → Meaning
+abbrev pub table : List Row → ℕ → ℕ → List Kind → Meaning
 table rows start len kinds = record {
-  kinds = listed kinds;
+  kinds = kinds;
   count = length rows;
-  at = λ k. cond (nat_le start k && nat_lt k (start + len)) (meant? kinds.count (nth rows k)) None;
+  at = λ k. cond (nat_le start k && nat_lt k (start + len)) (meant? (length kinds) (slice_get rows k)) None;
 }
 
 -- a row that may stand in a table of these kinds
@@ -44,7 +44,7 @@ pub record Rising (m : Meaning) : Type 0 where
   pub rise : (i j : ℕ) (r s : SpecRow) → i < j → m.at i ≡ Some r → m.at j ≡ Some s → Below s.tuple r.tuple → ⊥
 
 -- what an accepted table keeps to; `ordered` says that its tuples are known to rise
-pub record TableOk (rows : List Row) (start len : ℕ) (kinds : Kinds) (ordered : Bool) : Type 0 where
+pub record TableOk (rows : List Row) (start len : ℕ) (kinds : List Kind) (ordered : Bool) : Type 0 where
   pub sound : Sound (table rows start len kinds)
   pub order : ordered ≡ true → Rising (table rows start len kinds)
 
@@ -75,13 +75,13 @@ pub record NextLed (m : Meaning) (lead : Tuple) (k r : ℕ) : Type 0 where
 abbrev pub all_periods : List Row → Bool
 all_periods rows = list_all (λ w. is_period w.first w.end) rows
 
-abbrev pub all_fit : Kinds → List Row → Bool
-all_fit ks rows = list_all (λ w. fits (listed ks) (meant ks.count w).tuple) rows
+abbrev pub all_fit : List Kind → List Row → Bool
+all_fit ks rows = list_all (λ w. fits ks (meant (length ks) w).tuple) rows
 
 -- the reason why rows are no table of these kinds, the first that applies
-abbrev pub no_table : List Row → Kinds → Option Reason
+abbrev pub no_table : List Row → List Kind → Option Reason
 no_table rows ks =
-    cond (not (nat_le 1 ks.count && nat_le ks.count most_columns)) (Some Misfit)
+    cond (not (nat_le 1 (length ks) && nat_le (length ks) most_columns)) (Some Misfit)
     (cond (not (all_periods rows)) (Some NoPeriod)
     (cond (not (all_fit ks rows)) (Some OutOfBounds)
     (cond (not (nat_le (length rows) most_places)) (Some TooManyPlaces) None)))

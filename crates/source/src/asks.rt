@@ -12,39 +12,29 @@ pub trait Source {
     // The kinds and the places, each empty or filled with one row.
     ghost meaning: { Self → Meaning };
 
-    // The source was made without refusal.
-    ghost accepted: { Self → Type 0 };
-
-    // An accepted source keeps the bounds of kinds, places, periods and values.
-    ghost sound: { (s : Self) → accepted s → Sound (meaning s) };
+    // Every source keeps the bounds of kinds, places, periods and values.
+    ghost sound: { (s : Self) → Sound (meaning s) };
 
     fn columns(&self) -> usize
-        requires { accepted self.now }
         ensures { result ≡ length (meaning self.now).kinds };
 
     fn places(&self) -> usize
-        requires { accepted self.now }
         ensures { result ≡ (meaning self.now).count };
 
     fn kind(&self, c: usize) -> Option<Kind>
-        requires { accepted self.now }
         ensures { result ≡ kind_of (meaning self.now) c };
 
     fn first(&self, k: usize) -> Option<u32>
-        requires { accepted self.now }
         ensures { result ≡ first_of (meaning self.now) k };
 
     fn end(&self, k: usize) -> Option<u32>
-        requires { accepted self.now }
         ensures { result ≡ end_of (meaning self.now) k };
 
     fn value(&self, k: usize, c: usize) -> Option<i64>
-        requires { accepted self.now }
         ensures { result ≡ value_of (meaning self.now) k c };
 
     // The whole row at a place, unused values 0.
     fn row(&self, k: usize) -> Option<Row>
-        requires { accepted self.now }
         ensures { result ≡ row_of (meaning self.now) k }
     {
         let first = self.first(k)?;
@@ -59,7 +49,6 @@ pub trait Source {
     // A place from k on such that no filled place before it begins with the values `lead`.
     // With no values it passes over empty places.
     fn seek(&self, k: usize, lead: &[i64]) -> usize
-        requires { accepted self.now }
         ensures { NoneLed (meaning self.now) lead.now k result }
     {
         k

@@ -4,13 +4,14 @@ ghost use Rattle.relation.specs.Bounds.{most_columns};
 ghost use Rattle.relation.specs.Refusals.{Answers};
 ghost use Rattle.source.specs.Meaning.{fits};
 ghost use Rattle.source.specs.Tables.{table, meant?, all_periods, all_fit, no_table, TableOk, Rising, leading, Leads, LowerBound, NextLed};
-ghost use Rattle.relation.specs.Stored.{listed as kind_list, meant};
+ghost use Rattle.relation.specs.Stored.{meant};
+ghost use Rattle.relation.specs.Values.{in_kind};
+ghost use Rattle.std.specs.List.{list_all, zip};
 ghost use Rattle.std.specs.Cmp.Lexicographic.{slice_cmp};
 ghost use Rattle.std.specs.Ordering.{is_lt, int_cmp};
 
 use crate::asks::Source;
 use relation::bounds::{MOST_COLUMNS, MOST_PLACES};
-use relation::columns::Kinds;
 use relation::days::is_period;
 use relation::kinds::Kind;
 use relation::refusals::{Reason, Refusal};
@@ -21,38 +22,33 @@ use std::cmp::Ordering;
 fn all_periods(rows: &[Row]) -> bool
     ensures { result ≡ all_periods rows.now }
 {
-    for row in rows {
-        if !is_period(row.first, row.end) {
-            return false;
-        }
-    }
-    true
+    rows.iter().all(|row| is_period(row.first, row.end))
+}
+
+// Whether each value that stands beside a kind is within its bounds.
+fn all_hold(kinds: &[Kind], values: &[i64]) -> bool
+    ensures { result ≡ list_all (λ p. in_kind p.0 p.1) (zip kinds.now values.now) }
+{
+    kinds
+        .iter()
+        .zip(values)
+        .all(|(kind, value)| kind.holds(*value))
 }
 
 // Whether the row's values are within the bounds of their kinds.
-pub fn fits_kinds(row: &Row, kinds: &Kinds) -> bool
-    requires { kinds.now.count ≤ most_columns }
-    ensures { result ≡ fits (kind_list kinds.now) (meant kinds.now.count row.now).tuple }
+pub fn fits_kinds(row: &Row, kinds: &[Kind]) -> bool
+    requires { length kinds.now ≤ most_columns }
+    ensures { result ≡ fits kinds.now (meant (length kinds.now) row.now).tuple }
 {
-    for c in 0..kinds.count {
-        if !kinds.at[c].holds(row.values[c]) {
-            return false;
-        }
-    }
-    true
+    all_hold(kinds, &row.values)
 }
 
 // Whether each row's values are within the bounds of their kinds.
-fn all_fit(rows: &[Row], kinds: &Kinds) -> bool
-    requires { kinds.now.count ≤ most_columns }
+fn all_fit(rows: &[Row], kinds: &[Kind]) -> bool
+    requires { length kinds.now ≤ most_columns }
     ensures { result ≡ all_fit kinds.now rows.now }
 {
-    for row in rows {
-        if !fits_kinds(row, kinds) {
-            return false;
-        }
-    }
-    true
+    rows.iter().all(|row| fits_kinds(row, kinds))
 }
 
 // How the first values of the row's tuple, as many as `lead` has, stand to `lead`.
@@ -60,8 +56,7 @@ fn compare_lead(row: &Row, columns: usize, lead: &[i64]) -> Ordering
     requires { columns ≤ most_columns }
     ensures { result ≡ leading (meant columns row.now).tuple lead.now }
 {
-    let values = &row.values[0..columns.min(lead.len())];
-    values.cmp(&lead)
+    row.values[..columns.min(lead.len())].cmp(lead)
 }
 
 // Whether the tuple of `next` is below that of `row`.
@@ -69,69 +64,72 @@ fn falls(row: &Row, next: &Row, columns: usize) -> bool
     requires { columns ≤ most_columns }
     ensures { result ≡ is_lt (slice_cmp int_cmp (meant columns next.now).tuple (meant columns row.now).tuple) }
 {
-    compare_lead(next, columns, &row.values[0..columns]).is_lt()
+    compare_lead(next, columns, &row.values[..columns]).is_lt()
 }
 
 // Whether from row to row the tuples rise or stay equal.
-fn in_order(rows: &[Row], kinds: &Kinds) -> bool
-    requires { kinds.now.count ≤ most_columns }
+fn in_order(rows: &[Row], kinds: &[Kind]) -> bool
+    requires { length kinds.now ≤ most_columns }
     ensures { Decides result (Rising (table rows.now 0 (length rows.now) kinds.now)) }
 {
-    for i in 1..rows.len() {
-        if falls(&rows[i - 1], &rows[i], kinds.count) {
-            return false;
-        }
-    }
-    true
+    rows.is_sorted_by(|row, next| !falls(row, next, kinds.len()))
 }
 
 #[derive(Clone, Copy)]
 pub struct Table<'a> {
     rows: &'a [Row],
+    kinds: &'a [Kind],
     start: usize,
     len: usize,
-    kinds: Kinds,
     // The rows are known to be listed: from row to row the tuples rise or stay equal.
     listed: bool,
+    ghost ok: { TableOk rows.now start len kinds.now listed },
 }
 
 impl<'a> Table<'a> {
     // The `len` rows from `start` on, not looked at; `listed` says that they are known to be listed.
-    pub fn new(rows: &'a [Row], start: usize, len: usize, kinds: Kinds, listed: bool) -> Table<'a>
-        ensures { (result.rows.now ≡ rows.now) × (result.start ≡ start) × (result.len ≡ len) × (result.kinds ≡ kinds) × (result.listed ≡ listed) }
+    pub fn new(
+        rows: &'a [Row],
+        start: usize,
+        len: usize,
+        kinds: &'a [Kind],
+        listed: bool,
+    ) -> Table<'a>
+        requires { TableOk rows.now start len kinds.now listed }
+        ensures { (result.rows.now ≡ rows.now) × (result.start ≡ start) × (result.len ≡ len) × (result.kinds.now ≡ kinds.now) × (result.listed ≡ listed) }
     {
         Table {
             rows,
+            kinds,
             start,
             len,
-            kinds,
             listed,
         }
     }
 
     // A table of all the rows, each looked at first.
-    pub fn open(rows: &'a [Row], kinds: Kinds) -> Result<Table<'a>, Refusal>
-        ensures { Answers result (no_table rows.now kinds) (λ t. (t.rows.now ≡ rows.now) × (t.start ≡ 0) × (t.len ≡ length rows.now) × (t.kinds ≡ kinds) × TableOk t.rows.now t.start t.len t.kinds t.listed × Decides t.listed (Rising (table rows.now 0 (length rows.now) kinds))) }
+    pub fn open(rows: &'a [Row], kinds: &'a [Kind]) -> Result<Table<'a>, Refusal>
+        ensures { Answers result (no_table rows.now kinds.now) (λ t. (t.rows.now ≡ rows.now) × (t.start ≡ 0) × (t.len ≡ length rows.now) × (t.kinds.now ≡ kinds.now) × Decides t.listed (Rising (table rows.now 0 (length rows.now) kinds.now))) }
     {
-        if kinds.count < 1 || kinds.count > MOST_COLUMNS {
-            return Err(Refusal::plain(Reason::Misfit));
+        if kinds.is_empty() || kinds.len() > MOST_COLUMNS {
+            return Err(Reason::Misfit.into());
         }
         if !all_periods(rows) {
-            return Err(Refusal::plain(Reason::NoPeriod));
+            return Err(Reason::NoPeriod.into());
         }
-        if !all_fit(rows, &kinds) {
-            return Err(Refusal::plain(Reason::OutOfBounds));
+        if !all_fit(rows, kinds) {
+            return Err(Reason::OutOfBounds.into());
         }
         if rows.len() > MOST_PLACES {
-            return Err(Refusal::plain(Reason::TooManyPlaces));
+            return Err(Reason::TooManyPlaces.into());
         }
-        let listed = in_order(rows, &kinds);
+        let listed = in_order(rows, kinds);
         Ok(Table::new(rows, 0, rows.len(), kinds, listed))
     }
 
     // The row at a place that is filled.
     fn held(&self, k: usize) -> Option<Row>
-        ensures { meant? self.now.kinds.count result ≡ (table self.now.rows.now self.now.start self.now.len self.now.kinds).at k }
+        ensures { meant? (length self.now.kinds.now) result ≡ (table self.now.rows.now self.now.start self.now.len self.now.kinds.now).at k }
     {
         if k >= self.start && k - self.start < self.len && k < self.rows.len() {
             Some(self.rows[k])
@@ -149,42 +147,33 @@ impl<'a> Table<'a> {
 
     // How place k, which is filled, stands to `lead` by its first values.
     fn compare(&self, k: usize, lead: &[i64]) -> Ordering
-        requires accepted { TableOk self.now.rows.now self.now.start self.now.len self.now.kinds self.now.listed }
         requires after { self.now.start ≤ k }
         requires within { k < min (length self.now.rows.now) (self.now.start + self.now.len) }
-        ensures { Leads (table self.now.rows.now self.now.start self.now.len self.now.kinds) lead.now k result }
+        ensures { Leads (table self.now.rows.now self.now.start self.now.len self.now.kinds.now) lead.now k result }
     {
-        compare_lead(&self.rows[k], self.kinds.count, lead)
+        compare_lead(&self.rows[k], self.kinds.len(), lead)
     }
 
     // The first place from `from` on that does not lead with less than `lead`.
     fn lower_bound(&self, from: usize, lead: &[i64]) -> usize
-        requires accepted { TableOk self.now.rows.now self.now.start self.now.len self.now.kinds self.now.listed }
         requires known { self.now.listed ≡ true }
         requires after { self.now.start ≤ from }
         requires within { from ≤ min (length self.now.rows.now) (self.now.start + self.now.len) }
-        ensures { LowerBound (table self.now.rows.now self.now.start self.now.len self.now.kinds) lead.now from (min (length self.now.rows.now) (self.now.start + self.now.len)) result }
+        ensures { LowerBound (table self.now.rows.now self.now.start self.now.len self.now.kinds.now) lead.now from (min (length self.now.rows.now) (self.now.start + self.now.len)) result }
     {
-        let mut low = from;
-        let mut high = self.past();
-        while low < high {
-            let middle = low + (high - low) / 2;
-            if self.compare(middle, lead).is_lt() {
-                low = middle + 1;
-            } else {
-                high = middle;
-            }
-        }
-        low
+        let width = self.kinds.len();
+        let below = self.rows[from..self.past()].partition_point(|row| compare_lead(
+            row, width, lead,
+        ).is_lt());
+        from + below
     }
 
     // The first place from `from` on, which is filled, that begins with `lead`, else the number of places.
     fn find(&self, from: usize, lead: &[i64]) -> usize
-        requires accepted { TableOk self.now.rows.now self.now.start self.now.len self.now.kinds self.now.listed }
         requires known { self.now.listed ≡ true }
         requires after { self.now.start ≤ from }
         requires within { from < min (length self.now.rows.now) (self.now.start + self.now.len) }
-        ensures { NextLed (table self.now.rows.now self.now.start self.now.len self.now.kinds) lead.now from result }
+        ensures { NextLed (table self.now.rows.now self.now.start self.now.len self.now.kinds.now) lead.now from result }
     {
         if self.compare(from, lead).is_eq() {
             return from;
@@ -199,14 +188,12 @@ impl<'a> Table<'a> {
 }
 
 impl Source for Table<'_> {
-    ghost meaning = { λ s. table s.rows.now s.start s.len s.kinds };
+    ghost meaning = { λ s. table s.rows.now s.start s.len s.kinds.now };
 
-    ghost accepted = { λ s. TableOk s.rows.now s.start s.len s.kinds s.listed };
-
-    ghost sound = { λ s h. h.sound };
+    ghost sound = { λ s. s.ok.sound };
 
     fn columns(&self) -> usize {
-        self.kinds.count
+        self.kinds.len()
     }
 
     fn places(&self) -> usize {
@@ -214,45 +201,28 @@ impl Source for Table<'_> {
     }
 
     fn kind(&self, c: usize) -> Option<Kind> {
-        if c >= 1 && c <= self.kinds.count {
-            Some(self.kinds.at[c - 1])
+        self.kinds.get(c.checked_sub(1)?).copied()
+    }
+
+    fn first(&self, k: usize) -> Option<u32> {
+        Some(self.held(k)?.first)
+    }
+
+    fn end(&self, k: usize) -> Option<u32> {
+        Some(self.held(k)?.end)
+    }
+
+    fn value(&self, k: usize, c: usize) -> Option<i64> {
+        let row = self.held(k)?;
+        if c >= 1 && c <= self.kinds.len() {
+            Some(row.values[c - 1])
         } else {
             None
         }
     }
 
-    fn first(&self, k: usize) -> Option<u32> {
-        match self.held(k) {
-            Some(row) => Some(row.first),
-            None => None,
-        }
-    }
-
-    fn end(&self, k: usize) -> Option<u32> {
-        match self.held(k) {
-            Some(row) => Some(row.end),
-            None => None,
-        }
-    }
-
-    fn value(&self, k: usize, c: usize) -> Option<i64> {
-        match self.held(k) {
-            Some(row) => {
-                if c >= 1 && c <= self.kinds.count {
-                    Some(row.values[c - 1])
-                } else {
-                    None
-                }
-            }
-            None => None,
-        }
-    }
-
     fn row(&self, k: usize) -> Option<Row> {
-        match self.held(k) {
-            Some(row) => Some(row.trimmed(self.kinds.count)),
-            None => None,
-        }
+        Some(self.held(k)?.trimmed(self.kinds.len()))
     }
 
     fn seek(&self, k: usize, lead: &[i64]) -> usize {

@@ -1,4 +1,4 @@
-use Rattle.std.proofs.Common.{◌≡◌, ◌-◌, length, pos, ap, ◌∙◌, arith, rules}
+use Rattle.std.proofs.Common.{◌≡◌, length, pos, refl, ap, ◌∙◌, arith, rules}
 use Rattle.std.specs.Ordering.{is_lt}
 use Rattle.relation.specs.Stored.{meant}
 use Rattle.relation.proofs.Firsts.{length_firsts}
@@ -14,5 +14,5 @@ returns c =
     let row = (meant n c.args.row.now).tuple in
     c.is_lt.ensures
     ∙ ap is_lt (c.compare_lead.ensures
-    ∙ ap (leading next) (firsts_take n (n - 0) c.args.row.now.values (pos 0) (omega arith) (omega arith))
+    ∙ ap (leading next) (firsts_take n n c.args.row.now.values (pos 0) refl (omega arith))
     ∙ leading_whole next row (omega (arith, length_firsts n c.args.next.now.values (pos 0), length_firsts n c.args.row.now.values (pos 0))))

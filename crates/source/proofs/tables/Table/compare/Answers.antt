@@ -1,17 +1,17 @@
-use Rattle.std.proofs.Common.{get_or, sym, arith}
+use Rattle.std.proofs.Common.{get_or, length, sym, arith}
 use Rattle.relation.specs.Stored.{meant}
 use Rattle.source.specs.Tables.{no_row}
 use Rattle.source.proofs.TableRows.{row_in, few_columns}
 use Rattle.source.proofs.tables.Table.compare.Goals as goal
 
 pub compare_lead-requires : goal.compare_lead-requires
-compare_lead-requires c = few_columns c.args.self.now.rows.now c.args.self.now.start c.args.self.now.len c.args.self.now.kinds c.requires.accepted.sound
+compare_lead-requires c = few_columns c.args.self.now.rows.now c.args.self.now.start c.args.self.now.len c.args.self.now.kinds.now c.args.self.now.ok.sound
 
 pub returns : goal.returns
 returns c =
     let s = c.args.self.now in
     record {
-      row = meant s.kinds.count (get_or s.rows.now c.args.k no_row);
-      there = sym (row_in s.rows.now s.start s.len s.kinds c.args.k no_row (omega arith) (omega arith) (omega arith));
+      row = meant (length s.kinds.now) (get_or s.rows.now c.args.k no_row);
+      there = sym (row_in s.rows.now s.start s.len s.kinds.now c.args.k no_row (omega arith) (omega arith) (omega arith));
       order = c.compare_lead.ensures;
     }

@@ -13,6 +13,6 @@ returns-then-is_eq-2 c = led_found _ _ _ _ _ c.lower_bound-found.ensures (omega 
 pub returns-else-found-past : goal.returns-else-found-past
 returns-else-found-past c =
     let s = c.args.self.now in
-    led_nowhere _ _ _ _ _ c.lower_bound-found.ensures (c.requires.accepted.order c.requires.known) (omega arith)
-    (λ p w e. let f = filled_at s.rows.now s.start s.len s.kinds p w e in omega arith)
+    led_nowhere _ _ _ _ _ c.lower_bound-found.ensures (c.args.self.now.ok.order c.requires.known) (omega arith)
+    (λ p w e. let f = filled_at s.rows.now s.start s.len s.kinds.now p w e in omega arith)
     (λ lt. elim c.else-found-past.branch [ else-found-past-via-then-found-past+else-is_eq-2 w ↦ (w.compare-then-found-past.result, (w.compare-then-found-past.ensures, w.if-is_eq-2.ensures)) | else-found-past-via-else-found-past w ↦ absurd (omega arith) ])

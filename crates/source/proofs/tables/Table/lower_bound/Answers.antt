@@ -1,34 +1,19 @@
-use Rattle.std.proofs.Common.{arith}
-use Rattle.source.specs.Tables.{table}
-use Rattle.source.proofs.Risen.{before_more, after_more}
+use Rattle.std.proofs.Common.{◌≡◌, List, ℕ, ◌+◌, ◌-◌, ◌<◌, ◌≤◌, min, length, get_or, take, drop, ◌∙◌, arith, rules}
+use Rattle.std.proofs.lemmas.List.{length-take, length-drop, get_or-take, get_or-drop}
+use Rattle.std.proofs.lemmas.List.Sorted.{IsPartitionPoint-from_clause}
+use Rattle.relation.specs.declared.rows.Row.{Row}
+use Rattle.source.proofs.Risen.{below, parted, bound_found}
 use Rattle.source.proofs.tables.Table.lower_bound.Goals as goal
-
-pub loop-low-init : goal.loop-low-init
-loop-low-init c = (omega arith, omega arith, omega arith, λ p w a b e. absurd (omega arith), λ p w a b e less. omega arith)
-
-pub loop-low-preserved-then-is_lt : goal.loop-low-preserved-then-is_lt
-loop-low-preserved-then-is_lt c =
-    let s = c.args.self.now in
-    let i = c.loop-low.invariant in (
-      omega arith,
-      omega arith,
-      omega arith,
-      λ p w a b. before_more (table s.rows.now s.start s.len s.kinds) c.args.lead.now (c.requires.accepted.order c.requires.known) _ c.compare.result c.compare.ensures c.if-is_lt.ensures p w b,
-      i.4,
-    )
-
-pub loop-low-preserved : goal.loop-low-preserved
-loop-low-preserved c =
-    let s = c.args.self.now in
-    let i = c.loop-low.invariant in (
-      omega arith,
-      omega arith,
-      omega arith,
-      i.3,
-      λ p w a b. after_more (table s.rows.now s.start s.len s.kinds) c.args.lead.now (c.requires.accepted.order c.requires.known) _ c.compare.result c.compare.ensures c.if-is_lt.ensures p w a,
-    )
 
 pub returns : goal.returns
 returns c =
-    let i = c.loop-low.invariant in
-    record { from = omega arith; upto = omega arith; before = i.3; after = λ p w a b. i.4 p w (omega arith) (omega arith) }
+    let s = c.args.self.now in
+    let from = c.args.from in
+    let order = s.ok.order c.requires.known in
+    let xs : List Row = take (c.past.result - from) (drop from s.rows.now) in
+    let long : length xs ≡ c.past.result - from = simp (length-take, length-drop) (omega arith) in
+    let at : (i : ℕ) (d : Row) → i < length xs → get_or xs i d ≡ get_or s.rows.now (from + i) d = λ i d h. get_or-take (c.past.result - from) (drop from s.rows.now) i d (omega arith) ∙ get_or-drop from s.rows.now i d in
+    let within : c.past.result ≤ min (length s.rows.now) (s.start + s.len) = omega (arith, c.past.ensures) in
+    let sorted = parted s.rows.now s.start s.len s.kinds.now c.args.lead.now from c.past.result xs order c.requires.after within long at in
+    let point = IsPartitionPoint-from_clause (below s.rows.now s.start s.len s.kinds.now c.args.lead.now from c.past.result xs order c.requires.after within long at) xs c.partition_point-below.result c.partition_point-below.ensures.partitioned sorted (λ a r q k. search rules) in
+    rw (← c.past.ensures) (bound_found s.rows.now s.start s.len s.kinds.now c.args.lead.now from c.past.result xs order c.requires.after within long at c.partition_point-below.result (omega (arith, c.partition_point-below.ensures.bound)) point (omega arith))
