@@ -8,6 +8,7 @@ pub mod Sweeping
 pub mod Indexed
 pub mod Narrow
 pub mod Arranged
+pub mod Listed
 pub mod Lent
 pub mod Relisted
 pub mod Gathered

@@ -1,22 +1,22 @@
 -- What a change of one entry leaves of a store.
 use Rattle.std.specs.List.{list_all}
-use Rattle.std.proofs.Common.{◌≡◌, ℕ, zero, suc, ◌+◌, ◌<◌, ◌≤◌, Bool, true, false, cond, List, [], ◌∷◌, ◌++◌, map, length, get_or, take, drop, set, Some, sym, refl, ap, ◌∙◌, subst, ap₂, inl, inr, arith}
+use Rattle.std.proofs.Common.{◌≡◌, ℕ, zero, suc, ◌+◌, ◌<◌, Bool, true, false, cond, ◌&&◌, List, [], ◌∷◌, ◌++◌, map, length, get_or, take, drop, set, Some, sym, refl, ap, ◌∙◌, subst, ap₂, inl, inr, arith}
 use Rattle.std.proofs.lemmas.List.{length-set, get_or-set_same, get_or-set_other, length-take, length-drop, length-map, map_push, length_push}
+use Rattle.std.proofs.lemmas.List.Sums.{sum_by_more}
 use Rattle.std.proofs.lemmas.Bool.{both_ways, cases_Bool, cases_eq, cond-false, and_parts, and_from, eq-eqb}
 use Rattle.relation.specs.declared.rows.Row.{Row}
-use Rattle.relation.specs.declared.kinds.Kind.TheVariants.{Number}
-use Rattle.relation.specs.Bounds.{most_columns, most_entries, most_stored}
+use Rattle.relation.specs.Bounds.{most_entries, most_stored}
 use Rattle.relation.specs.Rows.{SpecRow}
-use Rattle.relation.specs.Stored.{listed, meant, blank_row}
+use Rattle.relation.specs.Few.{items}
+use Rattle.relation.specs.Stored.{meant, blank_row}
 use Rattle.relation.proofs.Every.{every_at}
-use Rattle.relation.proofs.Firsts.{length_firsts}
 use Rattle.register.specs.declared.entries.Mark.{Mark}
 use Rattle.register.specs.declared.entries.Mark.TheVariants.{Free, Draft}
 use Rattle.register.specs.declared.entries.Entry.{Entry}
 use Rattle.register.specs.declared.store.Store.{Store}
-use Rattle.register.specs.Layout.{Part, entry_part, parts, total, named, bears, bearer, bearing, free, is_free, is_published, is_listed, is_few, rivals, is_blank, good_row, good_part, Apart, Room, Blanks, Sound, grown}
+use Rattle.register.specs.Layout.{Part, entry_part, parts, total, named, bears, bearer, bearing, free, is_free, is_published, is_listed, is_few, rivals, is_blank, good_row, good_part, Vacant, Apart, Room, Blanks, Sound, grown}
 use Rattle.register.specs.State.{held, used, rows_of, Whole, Leaves, added, size_of, code_at, mark_at}
-use Rattle.register.proofs.Storage.{total_more, total_split, parts_change}
+use Rattle.register.proofs.Storage.{total_cons, total_split, parts_change}
 use Rattle.register.proofs.Naming.{length_parts, parts_at, bears_one, named_at, alone, only_here, apart_set}
 use Rattle.register.proofs.Moves.{opened, opened_length, opened_front, opened_rest, opened_past, opened_at}
 
@@ -25,8 +25,8 @@ draft_bears e h = ap (λ m. bears m e.name.code e.name.code) h ∙ eq-eqb e.name
 
 pub total_set : (es : List Entry) (i : ℕ) (e' : Entry) → i < length es → total (set es i e') + (get_or es i free).count ≡ total es + e'.count
 total_set [] i e' h = absurd (omega arith)
-total_set (e ∷ es) zero e' h = omega arith
-total_set (e ∷ es) (suc i) e' h = let r = total_set es i e' (omega arith) in omega arith
+total_set (e ∷ es) zero e' h = omega (arith, total_cons e es, total_cons e' es)
+total_set (e ∷ es) (suc i) e' h = omega (arith, total_set es i e' (omega arith), total_cons e es, total_cons e (set es i e'))
 
 nobody : Part
 nobody = entry_part free []
@@ -64,27 +64,32 @@ every_push p (y ∷ ys) x h g = let q = and_parts (p y) (list_all p ys) h in and
 
 -- what is known of the rows of an entry in use
 pub record GoodAt (e : Entry) (rows : List SpecRow) : Type 0 where
-  pub few : is_few (listed e.kinds) ≡ true
-  pub rows_good : list_all (good_row (listed e.kinds)) rows ≡ true
+  pub few : is_few (items e.kinds) ≡ true
+  pub rows_good : list_all (good_row (items e.kinds)) rows ≡ true
   pub ordered : cond (is_published e.mark) (is_listed rows) true ≡ true
 
 pub good_at : (es : List Entry) (rs : List Row) (i : ℕ) → Sound es rs → i < length es → is_free (get_or es i free).mark ≡ false →
-    GoodAt (get_or es i free) (map (meant (get_or es i free).kinds.count) (old es rs i))
+    GoodAt (get_or es i free) (map (meant (length (items (get_or es i free).kinds))) (old es rs i))
 good_at es rs i sound h busy =
     let e = get_or es i free in
-    let rows = map (meant e.kinds.count) (old es rs i) in
+    let rows = map (meant (length (items e.kinds))) (old es rs i) in
     let l : i < length (parts es rs) = simp length_parts h in
     let g : good_part (entry_part e (old es rs i)) ≡ true = sym (ap good_part (parts_at es rs i nobody h)) ∙ every_at good_part (parts es rs) nobody i sound.fitting l in
-    let p = and_parts (is_few (listed e.kinds)) _ (sym (cond-false (is_free e.mark) true _ busy) ∙ g) in
-    let q = and_parts (list_all (good_row (listed e.kinds)) (map (meant e.kinds.count) (old es rs i))) _ p.1 in
+    let p = and_parts (is_few (items e.kinds)) _ (sym (cond-false (is_free e.mark) true _ busy) ∙ g) in
+    let q = and_parts (list_all (good_row (items e.kinds)) (map (meant (length (items e.kinds))) (old es rs i))) _ p.1 in
     record { few = p.0; rows_good = q.0; ordered = q.1 }
 
-pub good_from : (e : Entry) (rows : List Row) → GoodAt e (map (meant e.kinds.count) rows) → good_part (entry_part e rows) ≡ true
-good_from e rows g = go (is_free e.mark) _ (and_from (is_few (listed e.kinds)) _ g.few (and_from (list_all (good_row (listed e.kinds)) (map (meant e.kinds.count) rows)) _ g.rows_good g.ordered))
+pub good_from : (e : Entry) (rows : List Row) → GoodAt e (map (meant (length (items e.kinds))) rows) → good_part (entry_part e rows) ≡ true
+good_from e rows g = go (is_free e.mark) _ (and_from (is_few (items e.kinds)) _ g.few (and_from (list_all (good_row (items e.kinds)) (map (meant (length (items e.kinds))) rows)) _ g.rows_good g.ordered))
   where
     go : (b x : Bool) → x ≡ true → cond b true x ≡ true
     go true x h = refl
     go false x h = h
+
+pub vacant_good : (e : Entry) (rows : List Row) → Vacant e → good_part (entry_part e rows) ≡ true
+vacant_good e rows v =
+    let p = entry_part e rows in
+    ap (λ m. cond (is_free m) true (is_few p.kinds && (list_all (good_row p.kinds) p.rows && cond (is_published m) (is_listed p.rows) true))) v.mark
 
 -- a draft need not be in order
 pub draft_order : (m : Mark) (b : Bool) → m ≡ Draft → cond (is_published m) b true ≡ true
@@ -93,8 +98,8 @@ draft_order m b h = ap (λ x. cond (is_published x) b true) h
 -- a sound store with one entry changed
 pub sound_set : (es : List Entry) (rs rs' : List Row) (i : ℕ) (e' : Entry) (new : List Row) → Sound es rs → i < length es →
     parts (set es i e') rs' ≡ set (parts es rs) i (entry_part e' new) →
-    Room (set es i e') rs' → Blanks (set es i e') rs' → Apart (set es i e') → (e'.mark ≡ Free → e'.count ≡ 0) → e'.kinds.count ≤ most_columns → good_part (entry_part e' new) ≡ true → Sound (set es i e') rs'
-sound_set es rs rs' i e' new s h changed room blanks far empty wide good = record {
+    Room (set es i e') rs' → Blanks (set es i e') rs' → Apart (set es i e') → (e'.mark ≡ Free → e'.count ≡ 0) → good_part (entry_part e' new) ≡ true → Sound (set es i e') rs'
+sound_set es rs rs' i e' new s h changed room blanks far empty good = record {
   all = length-set es i e' ∙ s.all;
   room = room;
   blanks = blanks;
@@ -102,10 +107,6 @@ sound_set es rs rs' i e' new s h changed room blanks far empty wide good = recor
   empty = λ k m. elim (cases_eq k i) [
     | inl p ↦ let q : get_or (set es i e') k free ≡ e' = ap (λ x. get_or (set es i e') x free) p ∙ get_or-set_same es i e' free h in ap (λ x. x.count) q ∙ empty (sym (ap (λ x. x.mark) q) ∙ m)
     | inr ne ↦ let q = get_or-set_other es i k e' free ne in ap (λ x. x.count) q ∙ s.empty k (sym (ap (λ x. x.mark) q) ∙ m)
-  ];
-  wide = λ k. elim (cases_eq k i) [
-    | inl p ↦ subst (λ x. x.kinds.count ≤ most_columns) (sym (ap (λ x. get_or (set es i e') x free) p ∙ get_or-set_same es i e' free h)) wide
-    | inr ne ↦ subst (λ x. x.kinds.count ≤ most_columns) (sym (get_or-set_other es i k e' free ne)) (s.wide k)
   ];
   fitting = ap (list_all good_part) changed ∙ every_set good_part (parts es rs) i (entry_part e' new) s.fitting good;
 }
@@ -143,12 +144,12 @@ change_result s t i e' new whole h stands code same kinds count p changed room b
     (λ k ne. ap (λ x. cond (bearer (get_or es k free) (get_or es k free).name.code) x false) (same (get_or es k free).name.code) ∙ not_rivals (get_or es k free) e (λ r. ne (whole.apart k i r))) in
     let sound : Sound (set es i e') rs' = sound_set es rs rs' i e' new whole l changed room blanks far
     (λ m. absurd (both_ways (bearer e' n) (ap (λ x. bears x e'.name.code n) m) (same n ∙ stands)))
-    (subst (λ k. k.count ≤ most_columns) (sym kinds) (whole.wide i)) good in
+    good in
     let t' : held t ≡ named (parts (set es i e') rs') = ap (λ x. named (parts x rs')) p in
     let u0 : used t ≡ total (set es i e') = ap total p in
     let u1 = total_set es i e' l in
-    let u2 : size_of (held s n) ≡ e.count = ap size_of (held_at es rs i n whole.apart l stands) ∙ (length-map (old es rs i) (meant e.kinds.count) ∙ old_length es rs i whole l) in
-    let u3 : size_of (Some (entry_part e' new)) ≡ e'.count = length-map new (meant e'.kinds.count) ∙ sym count in (
+    let u2 : size_of (held s n) ≡ e.count = ap size_of (held_at es rs i n whole.apart l stands) ∙ (length-map (old es rs i) (meant (length (items e.kinds))) ∙ old_length es rs i whole l) in
+    let u3 : size_of (Some (entry_part e' new)) ≡ e'.count = length-map new (meant (length (items e'.kinds))) ∙ sym count in (
       subst (λ x. Sound x rs') (sym p) sound,
       record {
         only = record { here = ap (λ f. f n) t' ∙ o.here; other = λ m ne. ap (λ f. f m) t' ∙ o.other m ne };
@@ -164,17 +165,15 @@ change_result s t i e' new whole h stands code same kinds count p changed room b
 -- the part with one row more
 added_is : (e : Entry) (rows : List Row) (row : Row) → added row (Some (entry_part e rows)) ≡ Some (entry_part (grown e) (rows ++ row ∷ []))
 added_is e rows row =
-    let n = length_firsts e.kinds.count e.kinds.at Number in
-    let q : map (meant e.kinds.count) rows ++ meant (length (listed e.kinds)) row ∷ [] ≡ map (meant e.kinds.count) (rows ++ row ∷ []) =
-    ap (λ k. map (meant e.kinds.count) rows ++ meant k row ∷ []) n ∙ sym (map_push (meant e.kinds.count) rows row) in
-    λ j. Some (record { name = e.name.code; mark = e.mark; kinds = listed e.kinds; rows = q j })
+    let m = meant (length (items e.kinds)) in
+    λ j. Some (record { name = e.name.code; mark = e.mark; kinds = items e.kinds; rows = sym (map_push m rows row) j })
 
 draft_busy : (m : Mark) → m ≡ Draft → is_free m ≡ false
 draft_busy m h = ap is_free h
 
 pub add_result : (s t : Store) (i : ℕ) (row : Row) (at u : ℕ) →
     Whole s → i < most_entries → mark_at s i ≡ Draft → used s < rows_of s →
-    good_row (listed (get_or s.directory.entries i free).kinds) (meant (get_or s.directory.entries i free).kinds.count row) ≡ true →
+    good_row (items (get_or s.directory.entries i free).kinds) (meant (length (items (get_or s.directory.entries i free).kinds)) row) ≡ true →
     at ≡ total (take (i + 1) s.directory.entries) → u ≡ used s →
     t.directory.entries ≡ set s.directory.entries i (grown (get_or s.directory.entries i free)) →
     t.rows.now ≡ opened s.rows.now at u row →
@@ -190,7 +189,7 @@ add_result s t i row at u whole h draft room good here use' p q =
     let r = total (drop (suc i) es) in
     let l : i < length es = omega (arith, whole.all) in
     let w = total_split es i free l in
-    let a : at ≡ f + c = here ∙ total_more es i free l in
+    let a : at ≡ f + c = here ∙ sum_by_more (λ (x : Entry). x.count) es i free l in
     let b : u ≡ at + r = omega arith in
     let k : u < length rs = omega arith in
     let stands : bearer e n ≡ true = draft_bears e draft in
@@ -205,7 +204,7 @@ add_result s t i row at u whole h draft room good here use' p q =
     let g = good_at es rs i whole l (draft_busy e.mark draft) in
     let fine : good_part (entry_part (grown e) (old es rs i ++ row ∷ [])) ≡ true = good_from (grown e) (old es rs i ++ row ∷ []) (record {
       few = g.few;
-      rows_good = ap (list_all (good_row (listed e.kinds))) (map_push (meant e.kinds.count) (old es rs i) row) ∙ every_push (good_row (listed e.kinds)) (map (meant e.kinds.count) (old es rs i)) (meant e.kinds.count row) g.rows_good good;
+      rows_good = ap (list_all (good_row (items e.kinds))) (map_push (meant (length (items e.kinds))) (old es rs i) row) ∙ every_push (good_row (items e.kinds)) (map (meant (length (items e.kinds))) (old es rs i)) (meant (length (items e.kinds)) row) g.rows_good good;
       ordered = draft_order e.mark _ draft;
     }) in
     let made = change_result s t i (grown e) (old es rs i ++ row ∷ []) whole h stands refl (λ m. refl) refl z p changed
@@ -215,5 +214,5 @@ add_result s t i row at u whole h draft room good here use' p q =
     let o : added row (held s n) ≡ Some (entry_part (grown e) (old es rs i ++ row ∷ [])) = ap (added row) (held_at es rs i n whole.apart l stands) ∙ added_is e (old es rs i) row in (
       made.0,
       subst (Leaves s t n) (sym o) made.1,
-      z ∙ sym (ap size_of made.1.only.here ∙ length-map (old es rs i ++ row ∷ []) (meant e.kinds.count)),
+      z ∙ sym (ap size_of made.1.only.here ∙ length-map (old es rs i ++ row ∷ []) (meant (length (items e.kinds)))),
     )

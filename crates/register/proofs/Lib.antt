@@ -13,3 +13,4 @@ pub mod Tabled
 pub mod Blanked
 pub mod Publishing
 pub mod Showing
+pub mod Refused

@@ -6,7 +6,8 @@ use Rattle.relation.specs.declared.rows.Row.{Row}
 use Rattle.register.specs.declared.entries.Mark.{Mark}
 use Rattle.register.specs.declared.entries.Mark.TheVariants.{Free, Draft, Published}
 use Rattle.register.specs.declared.entries.Entry.{Entry}
-use Rattle.register.specs.Layout.{Part, entry_part, parts, total, named, bears, bearer, bearing, free, rivals, Apart, Only}
+use Rattle.register.proofs.Storage.{total_cons}
+use Rattle.register.specs.Layout.{Part, entry_part, parts, total, named, bears, bearer, bearing, free, rivals, Vacant, Apart, Only}
 
 pub length_parts : (es : List Entry) (rs : List Row) → length (parts es rs) ≡ length es
 length_parts [] rs = refl
@@ -17,13 +18,17 @@ parts_at [] rs k d h = absurd (omega arith)
 parts_at (e ∷ es) rs zero d h = refl
 parts_at (e ∷ es) rs (suc k) d h =
     parts_at es (drop e.count rs) k d (omega arith)
-    ∙ ap (λ x. entry_part (get_or es k free) (take (get_or es k free).count x)) (drop-drop (total (take k es)) e.count rs)
+    ∙ ap (λ x. entry_part (get_or es k free) (take (get_or es k free).count x)) (drop-drop (total (take k es)) e.count rs ∙ ap (λ n. drop n rs) (sym (total_cons e (take k es))))
 
 -- an entry bears one name only
 pub bears_one : (m : Mark) (a b n : ℕ) → bears m a n ≡ true → (b ≡ n → ⊥) → bears m a b ≡ false
 bears_one Free a b n h ne = refl
 bears_one Draft a b n h ne = ne_eqb a b (λ e. ne (sym e ∙ eqb-true a n h))
 bears_one Published a b n h ne = ne_eqb a b (λ e. ne (sym e ∙ eqb-true a n h))
+
+-- an entry that is not in use bears no name
+pub vacant_bears : (e : Entry) (m : ℕ) → Vacant e → bearer e m ≡ false
+vacant_bears e m v = ap (λ k. bears k e.name.code m) v.mark
 
 pub named_at : (ps : List Part) (i n : ℕ) (d : Part) → i < length ps → ((k : ℕ) → k < i → bearing (get_or ps k d) n ≡ false) → bearing (get_or ps i d) n ≡ true → named ps n ≡ Some (get_or ps i d)
 named_at [] i n d h none b = absurd (omega arith)

@@ -7,7 +7,8 @@ use Rattle.relation.specs.declared.refusals.Reason.TheVariants as no
 use Rattle.relation.specs.declared.refusals.Refusal.{Refusal}
 use Rattle.relation.specs.Bounds.{most_entries, most_stored}
 use Rattle.relation.specs.Refusals.{plain?}
-use Rattle.relation.specs.Stored.{listed, meant}
+use Rattle.relation.specs.Few.{items}
+use Rattle.relation.specs.Stored.{meant}
 use Rattle.relation.specs.Values.{word}
 use Rattle.listing.specs.Text.{list_text, Writes}
 use Rattle.register.specs.declared.entries.Entry.{Entry}
@@ -26,14 +27,14 @@ place_in es rs i at sound h a = let w = total_split es i free (omega (arith, sou
 
 -- the text is that of the rows there
 pub text_at : (s : Store) (name : List ℕ) (i at : ℕ) → Whole s → i < most_entries → mark_at s i ≡ Published → code_at s i ≡ word name → at ≡ total (take i s.directory.entries) →
-    list_text name (listed (get_or s.directory.entries i free).kinds) (map (meant (get_or s.directory.entries i free).kinds.count) (take (at + (get_or s.directory.entries i free).count - at) (drop at s.rows.now))) ≡ show_text s name
+    list_text name (items (get_or s.directory.entries i free).kinds) (map (meant (length (items (get_or s.directory.entries i free).kinds))) (take (at + (get_or s.directory.entries i free).count - at) (drop at s.rows.now))) ≡ show_text s name
 text_at s name i at whole h mark code a =
     let es = s.directory.entries in
     let e = get_or es i free in
     let n : at + e.count - at ≡ e.count = omega arith in
     let rows : take (at + e.count - at) (drop at s.rows.now) ≡ old es s.rows.now i = ap₂ (λ x y. take x (drop y s.rows.now)) n a in
     let o = held_place s (word name) i whole (omega (arith, whole.all)) (ap (bearer e) (sym code) ∙ published_bears e mark) in
-    ap (λ x. list_text name (listed e.kinds) (map (meant e.kinds.count) x)) rows ∙ sym (ap (λ x. list_text name (kinds_of x) (part_rows x)) o)
+    ap (λ x. list_text name (items e.kinds) (map (meant (length (items e.kinds))) x)) rows ∙ sym (ap (λ x. list_text name (kinds_of x) (part_rows x)) o)
 
 pub show_result : (s : Store) (name text output output' : List ℕ) (r : Result ℕ Refusal) → drop_no s name ≡ None → text ≡ show_text s name → Writes text r output output' →
     (err_of r ≡ plain? (show_no s name output)) × MatchResult r (λ k. Shown (show_text s name) k output output') (λ _. output' ≡ output)

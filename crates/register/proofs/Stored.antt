@@ -1,26 +1,22 @@
 -- Names and kinds as they are stored.
 use Rattle.std.specs.List.{list_all}
-use Rattle.std.proofs.Common.{◌≡◌, ℕ, zero, suc, ◌+◌, ◌^◌, ◌<◌, Bool, true, false, cond, not, ◌&&◌, T, leb, List, [], ◌∷◌, ◌++◌, length, get_or, ℤ, pos, negsuc, nat_abs, Some, None, sym, refl, ap, ◌∙◌, subst, ap₂, inl, inr, add-one, arith, w64, Fits, SFits, to_z, of_z}
+use Rattle.std.proofs.Common.{◌≡◌, ℕ, ◌^◌, ◌<◌, Bool, true, false, cond, not, ◌&&◌, T, leb, List, [], ◌∷◌, length, get_or, ℤ, pos, nat_abs, Some, None, sym, refl, subst, ap₂, inl, inr, arith, w64, Fits}
 use Rattle.std.specs.Int.Signed.{non_neg}
 use Rattle.std.specs.Char.{is_ascii_lowercase, is_ascii_digit, is_ascii_alphanumeric}
-use Rattle.std.proofs.lemmas.Int.{to_z-of_z}
 use Rattle.std.proofs.lemmas.Bool.{and_parts, and_from, or_cases, or_left, or_right}
 use Rattle.relation.specs.declared.kinds.Kind.{Kind}
-use Rattle.relation.specs.declared.kinds.Kind.TheVariants.{Number}
+use Rattle.relation.specs.declared.kinds.Kind.TheVariants.{Number, Word}
 use Rattle.relation.specs.Kinds.{same_kind}
-use Rattle.relation.specs.declared.columns.Kinds.{Kinds}
+use Rattle.std.specs.Cmp.Lexicographic.{pointwise}
 use Rattle.relation.specs.declared.rows.Row.{Row}
 use Rattle.relation.specs.declared.refusals.Reason.TheVariants as no
 use Rattle.relation.specs.Rows.{is_period}
-use Rattle.relation.specs.Stored.{firsts, listed, meant}
+use Rattle.relation.specs.Stored.{meant}
 use Rattle.relation.specs.Values.{word_byte, is_word, word, word_value}
 use Rattle.relation.proofs.Spelled.{value_from_word, word_below, words_inverse}
-use Rattle.relation.proofs.Firsts.{length_firsts}
-use Rattle.source.specs.Meaning.{cell, fits}
-use Rattle.source.proofs.Cells.{nth_firsts, nth_at}
-use Rattle.layers.specs.Alike.{alike, same_kinds}
+use Rattle.source.specs.Meaning.{fits}
+use Rattle.layers.specs.Alike.{same_kinds}
 use Rattle.words.specs.Name.{name_byte, is_name}
-use Rattle.register.specs.Layout.{is_zero}
 use Rattle.register.specs.Refusals.{rest_zero, row_no}
 
 -- ---- names are words
@@ -61,40 +57,24 @@ names_apart a b p q e = words_inverse.one_word a b (name_word a p) (name_word b 
 pub cast_is : (z : ℤ) (n : ℕ) → z ≡ pos n → n < 2 ^ 63 → T (non_neg z) × Fits w64 (nat_abs z)
 cast_is z n e h = subst (λ x. T (non_neg x) × Fits w64 (nat_abs x)) (sym e) (tt, omega arith)
 
--- ---- the first few of a list
-
-pub firsts_front : {X : Type 0} (xs ys : List X) (d : X) → firsts (length xs) (xs ++ ys) d ≡ xs
-firsts_front [] ys d = refl
-firsts_front (x ∷ xs) ys d = ap (λ l. x ∷ l) (firsts_front xs ys d)
-
-pub get_d_firsts : {X : Type 0} (n : ℕ) (xs : List X) (d : X) (i : ℕ) → i < n → get_or (firsts n xs d) i d ≡ get_or xs i d
-get_d_firsts zero xs d i h = absurd (omega arith)
-get_d_firsts (suc n) [] d zero h = refl
-get_d_firsts (suc n) [] d (suc i) h = get_d_firsts n [] d i (omega arith)
-get_d_firsts (suc n) (x ∷ xs) d zero h = refl
-get_d_firsts (suc n) (x ∷ xs) d (suc i) h = get_d_firsts n xs d i (omega arith)
-
 -- ---- kinds one by one
 
-pub alike_at : (n c : ℕ) (at given : List Kind) → c < n → c < length given → alike (cell (firsts n at Number) (c + 1)) (cell given (c + 1)) ≡ same_kind (get_or at c Number) (get_or given c Number)
-alike_at n c at given h g = rw add-one (ap₂ alike (nth_firsts n at Number c h) (nth_at given c Number g))
-
--- ---- zeros
-
-pub zero_is : (z : ℤ) → SFits w64 z → of_z w64 z ≡ 0 → true ≡ is_zero z
-zero_is z f e = sym (ap is_zero (sym (to_z-of_z w64 z f) ∙ ap (to_z w64) e))
-
-pub zero_not : (z : ℤ) → (of_z w64 z ≡ 0 → ⊥) → false ≡ is_zero z
-zero_not (pos zero) h = absurd (h refl)
-zero_not (pos (suc n)) h = refl
-zero_not (negsuc n) h = refl
+-- slices of kinds that are compared
+pub pointwise_kinds : (E : Kind → Kind → Bool) → E Number Number ≡ true → E Number Word ≡ false → E Word Number ≡ false → E Word Word ≡ true →
+    (ks ls : List Kind) → pointwise E ks ls ≡ same_kinds ks ls
+pointwise_kinds E a b c d [] [] = refl
+pointwise_kinds E a b c d [] (l ∷ ls) = refl
+pointwise_kinds E a b c d (k ∷ ks) [] = refl
+pointwise_kinds E a b c d (k ∷ ks) (l ∷ ls) = ap₂ ◌&&◌ (one k l) (pointwise_kinds E a b c d ks ls)
+  where
+    one : (k l : Kind) → E k l ≡ same_kind k l
+    one Number Number = a
+    one Number Word = b
+    one Word Number = c
+    one Word Word = d
 
 -- ---- why a row is refused, test by test
 
-pub row_no_lem : (ks : Kinds) (given : List Kind) (row : Row) (a b c d : Bool) → same_kinds (listed ks) given ≡ a → is_period row.first row.end ≡ b → fits (listed ks) (meant ks.count row).tuple ≡ c → rest_zero ks.count row ≡ d →
-    row_no (listed ks) given row ≡ cond (not a) (Some no.Misfit) (cond (not b) (Some no.NoPeriod) (cond (not c) (Some no.OutOfBounds) (cond (not d) (Some no.UnusedValue) None)))
-row_no_lem ks given row a b c d pa pb pc pd =
-    let n : length (listed ks) ≡ ks.count = length_firsts ks.count ks.at Number in
-    let pc' : fits (listed ks) (meant (length (listed ks)) row).tuple ≡ c = ap (λ k. fits (listed ks) (meant k row).tuple) n ∙ pc in
-    let pd' : rest_zero (length (listed ks)) row ≡ d = ap (λ k. rest_zero k row) n ∙ pd in
-    λ j. cond (not (pa j)) (Some no.Misfit) (cond (not (pb j)) (Some no.NoPeriod) (cond (not (pc' j)) (Some no.OutOfBounds) (cond (not (pd' j)) (Some no.UnusedValue) None)))
+pub row_no_lem : (ks given : List Kind) (row : Row) (a b c d : Bool) → same_kinds ks given ≡ a → is_period row.first row.end ≡ b → fits ks (meant (length ks) row).tuple ≡ c → rest_zero (length ks) row ≡ d →
+    row_no ks given row ≡ cond (not a) (Some no.Misfit) (cond (not b) (Some no.NoPeriod) (cond (not c) (Some no.OutOfBounds) (cond (not d) (Some no.UnusedValue) None)))
+row_no_lem ks given row a b c d pa pb pc pd = λ j. cond (not (pa j)) (Some no.Misfit) (cond (not (pb j)) (Some no.NoPeriod) (cond (not (pc j)) (Some no.OutOfBounds) (cond (not (pd j)) (Some no.UnusedValue) None)))

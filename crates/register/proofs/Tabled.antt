@@ -8,15 +8,12 @@ use Rattle.std.specs.Ordering.{is_lt, int_cmp}
 use Rattle.std.proofs.ByRecursion.{All-get_or, All-from_get_or}
 use Rattle.relation.specs.declared.rows.Row.{Row}
 use Rattle.relation.specs.declared.kinds.Kind.{Kind}
-use Rattle.relation.specs.declared.kinds.Kind.TheVariants.{Number}
-use Rattle.relation.specs.declared.columns.Kinds.{Kinds}
 use Rattle.relation.specs.declared.refusals.Refusal.{Refusal}
 use Rattle.relation.specs.Bounds.{most_columns, most_stored}
 use Rattle.relation.specs.Rows.{SpecRow, Ahead, Listed, Day, Period, Holds, is_period, Lists, on}
-use Rattle.relation.specs.Stored.{listed, meant, stored}
+use Rattle.relation.specs.Stored.{meant, stored}
 use Rattle.relation.proofs.Every.{every_at}
 use Rattle.relation.proofs.Fewest.{fewest}
-use Rattle.relation.proofs.Firsts.{length_firsts}
 use Rattle.relation.specs.Sets.{equal}
 use Rattle.relation.proofs.TupleSets.{equal_decides}
 use Rattle.relation.proofs.Held.{In, day_set}
@@ -67,12 +64,12 @@ listed_from (r ∷ rows) h = let p = and_parts (list_all (is_ahead r) rows) (is_
 
 -- ---- the rows of a table
 
-module _ (rows : List Row) (start len : ℕ) (ks : Kinds) (within : start + len ≤ length rows) where
+module _ (rows : List Row) (start len : ℕ) (ks : List Kind) (within : start + len ≤ length rows) where
   abbrev upto : ℕ → List SpecRow
-  upto k = map (meant ks.count) (take (min k (start + len) - start) (drop start rows))
+  upto k = map (meant (length ks)) (take (min k (start + len) - start) (drop start rows))
 
   upto_same : (k : ℕ) → (min (suc k) (start + len) - start ≡ min k (start + len) - start) → upto k ++ [] ≡ upto (suc k)
-  upto_same k e = append-nil (upto k) ∙ ap (λ j. map (meant ks.count) (take j (drop start rows))) (sym e)
+  upto_same k e = append-nil (upto k) ∙ ap (λ j. map (meant (length ks)) (take j (drop start rows))) (sym e)
 
   step : (k : ℕ) → k < length rows → upto k ++ filled? ((table rows start len ks).at k) ≡ upto (suc k)
   step k h = elim (cases_lt k start) [
@@ -84,38 +81,37 @@ module _ (rows : List Row) (start len : ℕ) (ks : Kinds) (within : start + len 
           let n : min k (start + len) - start ≡ i = omega arith in
           let m : i + 1 ≡ min (suc k) (start + len) - start = omega arith in
           ap (λ o. upto k ++ filled? o) (sym (row_in rows start len ks k no_row from in-it h))
-          ∙ (ap (λ j. map (meant ks.count) (take j (drop start rows)) ++ meant ks.count (get_or rows k no_row) ∷ []) n
-          ∙ (ap (λ x. map (meant ks.count) (take i (drop start rows)) ++ meant ks.count x ∷ []) (sym one)
-          ∙ (sym (map_more (meant ks.count) (drop start rows) i no_row (simp length-drop (omega arith)))
-          ∙ ap (λ j. map (meant ks.count) (take j (drop start rows))) m)))
+          ∙ (ap (λ j. map (meant (length ks)) (take j (drop start rows)) ++ meant (length ks) (get_or rows k no_row) ∷ []) n
+          ∙ (ap (λ x. map (meant (length ks)) (take i (drop start rows)) ++ meant (length ks) x ∷ []) (sym one)
+          ∙ (sym (map_more (meant (length ks)) (drop start rows) i no_row (simp length-drop (omega arith)))
+          ∙ ap (λ j. map (meant (length ks)) (take j (drop start rows))) m)))
       | inr past ↦ ap (λ o. upto k ++ filled? o) (sym (row_out rows start len ks k (λ a b c. omega arith))) ∙ upto_same k (omega arith)
     ]
   ]
 
   below : (k : ℕ) → k ≤ length rows → rows_below (table rows start len ks) k ≡ upto k
-  below zero h = sym (ap (λ j. map (meant ks.count) (take j (drop start rows))) {x = min 0 (start + len) - start} {y = 0} (omega arith))
+  below zero h = sym (ap (λ j. map (meant (length ks)) (take j (drop start rows))) {x = min 0 (start + len) - start} {y = 0} (omega arith))
   below (suc k) h = ap (λ l. l ++ filled? ((table rows start len ks).at k)) (below k (omega arith)) ∙ step k (omega arith)
 
   pub table_rows : rows_of (table rows start len ks) ≡ part_of ks start len rows
-  table_rows = below (length rows) (omega arith) ∙ ap (λ j. map (meant ks.count) (take j (drop start rows))) (omega arith)
+  table_rows = below (length rows) (omega arith) ∙ ap (λ j. map (meant (length ks)) (take j (drop start rows))) (omega arith)
 
   -- rows that are good make an accepted table, known to be listed where they are
-  pub table_good : (ordered : Bool) → length rows ≤ most_stored → is_few (listed ks) ≡ true → list_all (good_row (listed ks)) (part_of ks start len rows) ≡ true →
+  pub table_good : (ordered : Bool) → length rows ≤ most_stored → is_few ks ≡ true → list_all (good_row ks) (part_of ks start len rows) ≡ true →
       (ordered ≡ true → is_listed (part_of ks start len rows) ≡ true) → TableOk rows start len ks ordered
   table_good ordered few_rows few good order =
-      let n = length_firsts ks.count ks.at Number in
-      let c = and_parts (leb 1 (length (listed ks))) (leb (length (listed ks)) most_columns) few in
-      let low = leb-true 1 (length (listed ks)) c.0 in
-      let high = leb-true (length (listed ks)) most_columns c.1 in
+      let c = and_parts (leb 1 (length ks)) (leb (length ks) most_columns) few in
+      let low = leb-true 1 (length ks) c.0 in
+      let high = leb-true (length ks) most_columns c.1 in
       record {
         sound = table_sound rows start len ks (omega arith) (omega arith) (omega arith) (λ i lt le.
             let j = i - start in
             let l : j < length (take len (drop start rows)) = simp (length-take, length-drop) (omega arith) in
             let l' : j < length (part_of ks start len rows) = simp length-map l in
-            let at : get_or (part_of ks start len rows) j no_spec ≡ meant ks.count (get_or rows i no_row) =
-            get_or-map (meant ks.count) (take len (drop start rows)) j no_row no_spec l ∙ ap (meant ks.count) (get_or-take len (drop start rows) j no_row (omega arith) ∙ get_or-drop start rows j no_row ∙ ap (λ x. get_or rows x no_row) (omega arith)) in
-            let g : good_row (listed ks) (meant ks.count (get_or rows i no_row)) ≡ true = sym (ap (good_row (listed ks)) at) ∙ every_at (good_row (listed ks)) (part_of ks start len rows) no_spec j good l' in
-            let q = and_parts (is_period (get_or rows i no_row).first (get_or rows i no_row).end) (fits (listed ks) (meant ks.count (get_or rows i no_row)).tuple) g in
+            let at : get_or (part_of ks start len rows) j no_spec ≡ meant (length ks) (get_or rows i no_row) =
+            get_or-map (meant (length ks)) (take len (drop start rows)) j no_row no_spec l ∙ ap (meant (length ks)) (get_or-take len (drop start rows) j no_row (omega arith) ∙ get_or-drop start rows j no_row ∙ ap (λ x. get_or rows x no_row) (omega arith)) in
+            let g : good_row ks (meant (length ks) (get_or rows i no_row)) ≡ true = sym (ap (good_row ks) at) ∙ every_at (good_row ks) (part_of ks start len rows) no_spec j good l' in
+            let q = and_parts (is_period (get_or rows i no_row).first (get_or rows i no_row).end) (fits ks (meant (length ks) (get_or rows i no_row)).tuple) g in
             let p = and_parts _ _ q.0 in
             record { fitting = q.1; period = (ltb-true _ _ p.0, leb-true _ _ p.1) });
         order = λ e. rising_listed rows start len ks (listed_from (part_of ks start len rows) (order e));
@@ -167,9 +163,9 @@ stored_back ks c (r ∷ list) e few h =
     ap₂ ◌∷◌ (meant_stored c r few (fits_length ks r.tuple f ∙ e)) (stored_back ks c list e few h.1)
 
 -- the front of a work area
-pub front_is : {X : Type 0} (work new rest : List X) (c n : ℕ) → take c work ≡ new ++ rest → n ≡ length new → take (n - 0) work ≡ new
+pub front_is : {X : Type 0} (work new rest : List X) (c n : ℕ) → take c work ≡ new ++ rest → n ≡ length new → take n work ≡ new
 front_is work new rest c n e k =
     let z : length (take c work) ≡ length new + length rest = ap length e ∙ length-append new rest in
     let w : length (take c work) ≡ min c (length work) = length-take c work in
     let le : n ≤ c = omega arith in
-    ap (λ j. take j work) {x = n - 0} {y = n} (omega arith) ∙ (sym (take-take n c work le) ∙ (ap (take n) e ∙ take_at new rest n (sym k)))
+    sym (take-take n c work le) ∙ (ap (take n) e ∙ take_at new rest n (sym k))

@@ -1,16 +1,17 @@
 -- How the entries of a directory share the rows of a register.
-use Rattle.std.specs.List.{list_all}
-use Rattle.std.specs.Prelude.{◌≡◌, ℕ, zero, suc, ◌+◌, ◌<◌, ◌≤◌, min, Bool, true, false, cond, ◌&&◌, ◌||◌, List, [], ◌∷◌, map, length, get_or, take, drop, ℤ, pos, negsuc, Some, None, Option, ◌==◌, ◌≢◌, nat_le, nat_lt, slice_index_or}
+use Rattle.std.specs.List.{list_all, sum_by, position}
+use Rattle.std.specs.Prelude.{◌≡◌, ℕ, zero, suc, ◌+◌, ◌<◌, ◌≤◌, min, Bool, true, false, cond, ◌&&◌, ◌||◌, List, [], ◌∷◌, map, length, get_or, take, drop, replicate, ℤ, pos, negsuc, is_some, Some, None, Option, ◌==◌, ◌≢◌, nat_le, nat_lt, slice_index_or, refl}
+use Rattle.std.proofs.lemmas.Bool.{leb-true}
 use Rattle.std.specs.Cmp.Lexicographic.{slice_cmp}
 use Rattle.std.specs.Ordering.{is_lt, int_cmp}
 use Rattle.relation.specs.declared.rows.Row.{Row}
-use Rattle.relation.specs.declared.columns.Kinds.{Kinds}
+use Rattle.relation.specs.declared.few.Few.{Few}
 use Rattle.relation.specs.declared.kinds.Kind.{Kind}
-use Rattle.relation.specs.declared.kinds.Kind.TheVariants.{Number}
 use Rattle.relation.specs.Bounds.{most_columns, most_entries, most_stored}
 use Rattle.relation.specs.Rows.{SpecRow, is_period}
 use Rattle.relation.specs.Sets.{equal}
-use Rattle.relation.specs.Stored.{listed, meant, blank_row}
+use Rattle.relation.specs.Few.{items}
+use Rattle.relation.specs.Stored.{meant, blank_row}
 use Rattle.source.specs.Meaning.{fits}
 use Rattle.register.specs.declared.entries.Mark.{Mark}
 use Rattle.register.specs.declared.entries.Mark.TheVariants.{Free, Draft, Published}
@@ -24,20 +25,20 @@ pub record Part : Type 0 where
   pub rows : List SpecRow
 
 -- what the rows from start on, len of them, mean
-abbrev pub part_of : Kinds → ℕ → ℕ → List Row → List SpecRow
-part_of kinds start len rows = map (meant kinds.count) (take len (drop start rows))
+abbrev pub part_of : List Kind → ℕ → ℕ → List Row → List SpecRow
+part_of kinds start len rows = map (meant (length kinds)) (take len (drop start rows))
 
 abbrev pub entry_part : Entry → List Row → Part
-entry_part e rs = record { name = e.name.code; mark = e.mark; kinds = listed e.kinds; rows = map (meant e.kinds.count) rs }
+entry_part e rs = record { name = e.name.code; mark = e.mark; kinds = items e.kinds; rows = map (meant (length (items e.kinds))) rs }
 
 -- the rows of the entries lie one after another, in the order of the entries
 abbrev pub parts : List Entry → List Row → List Part
 parts [] rs = []
 parts (e ∷ es) rs = entry_part e (take e.count rs) ∷ parts es (drop e.count rs)
 
+-- how many rows they have together
 abbrev pub total : List Entry → ℕ
-total [] = 0
-total (e ∷ es) = e.count + total es
+total es = sum_by (λ (e : Entry). e.count) es
 
 abbrev pub is_free : Mark → Bool
 is_free Free = true
@@ -78,13 +79,23 @@ is_zero (negsuc n) = false
 abbrev pub is_blank : Row → Bool
 is_blank r = r.first == 0 && (r.end == 0 && list_all is_zero r.values)
 
+abbrev no_kinds : Few Kind most_columns
+no_kinds = record { at = []; len = 0; within = leb-true 0 most_columns refl }
+
 -- what is read past the end of a directory
 abbrev pub free : Entry
-free = record { name = record { code = 0 }; mark = Free; kinds = record { count = 0; at = [] }; count = 0 }
+free = record { name = record { code = 0 }; mark = Free; kinds = no_kinds; count = 0 }
 
 -- an entry that is not in use
-abbrev pub vacant : Entry
-vacant = record { name = record { code = 0 }; mark = Free; kinds = record { count = 0; at = Number ∷ Number ∷ Number ∷ Number ∷ Number ∷ Number ∷ [] }; count = 0 }
+pub record Vacant (e : Entry) : Type 0 where
+  pub name : e.name.code ≡ 0
+  pub mark : e.mark ≡ Free
+  pub kinds : items e.kinds ≡ []
+  pub count : e.count ≡ 0
+
+-- the entries of a directory that holds nothing
+abbrev pub EachVacant : List Entry → Type 0
+EachVacant es = (e : Entry) × Vacant e × (es ≡ replicate most_entries e)
 
 -- ---- changes of one entry
 
@@ -98,8 +109,7 @@ issued_entry e n = record { name = e.name; mark = Published; kinds = e.kinds; co
 pub record Begun (e : Entry) (n : ℕ) (ks : List Kind) : Type 0 where
   pub name : e.name.code ≡ n
   pub mark : e.mark ≡ Draft
-  pub kinds : listed e.kinds ≡ ks
-  pub wide : e.kinds.count ≤ most_columns
+  pub kinds : items e.kinds ≡ ks
   pub count : e.count ≡ 0
 
 -- ---- places of a directory
@@ -109,14 +119,13 @@ abbrev pub Finds : List Entry → ℕ → Option ℕ → Type 0
 Finds es n None = (k : ℕ) → bearer (slice_index_or es k free) n ≡ false
 Finds es n (Some i) = (i < length es) × (bearer (slice_index_or es i free) n ≡ true)
 
+-- the first place that is not in use
+abbrev pub first_free : List Entry → Option ℕ
+first_free es = position (λ (e : Entry). is_free e.mark) es
+
 -- some place is free
 abbrev pub vacancy : List Entry → Bool
-vacancy [] = false
-vacancy (e ∷ es) = cond (is_free e.mark) true (vacancy es)
-
-abbrev pub Spare : List Entry → Option ℕ → Type 0
-Spare es None = vacancy es ≡ false
-Spare es (Some i) = (vacancy es ≡ true) × (i < length es) × ((get_or es i free).mark ≡ Free)
+vacancy es = is_some (first_free es)
 
 -- ---- what a register keeps to
 
@@ -162,10 +171,6 @@ Apart es = (j k : ℕ) → rivals (slice_index_or es j free) (slice_index_or es 
 abbrev pub Empty : List Entry → Type 0
 Empty es = (k : ℕ) → (get_or es k free).mark ≡ Free → (get_or es k free).count ≡ 0
 
--- an entry has at most six columns
-abbrev pub Wide : List Entry → Type 0
-Wide es = (k : ℕ) → (get_or es k free).kinds.count ≤ most_columns
-
 -- each entry in use is good
 abbrev pub Fitting : List Entry → List Row → Type 0
 Fitting es rs = list_all good_part (parts es rs) ≡ true
@@ -176,7 +181,6 @@ pub record Sound (es : List Entry) (rs : List Row) : Type 0 where
   pub blanks : Blanks es rs
   pub apart : Apart es
   pub empty : Empty es
-  pub wide : Wide es
   pub fitting : Fitting es rs
 
 -- one name stands for another thing than before, and each other name for the same

@@ -4,6 +4,7 @@ use Rattle.relation.specs.declared.rows.Row.{Row}
 use Rattle.relation.specs.declared.kinds.Kind.{Kind}
 use Rattle.relation.specs.Bounds.{most_stored}
 use Rattle.relation.specs.Rows.{SpecRow, Lists, on}
+use Rattle.relation.specs.Few.{items}
 use Rattle.relation.specs.Stored.{meant}
 use Rattle.collect.specs.Collects.{counted}
 use Rattle.register.specs.declared.entries.Mark.{Mark}
@@ -36,13 +37,17 @@ mark_at s i = (slice_index_or s.directory.entries i free).mark
 abbrev pub rows_at : Store → ℕ → List SpecRow
 rows_at s i =
     let e = slice_index_or s.directory.entries i free in
-    part_of e.kinds (total (take i s.directory.entries)) e.count s.rows.now
+    part_of (items e.kinds) (total (take i s.directory.entries)) e.count s.rows.now
 
 -- ---- what is known of a name
 
 abbrev pub is_there : Option Part → Bool
 is_there None = false
 is_there (Some p) = true
+
+abbrev pub mark_of : Option Part → Option Mark
+mark_of None = None
+mark_of (Some p) = Some p.mark
 
 abbrev pub drafted : Option Part → Bool
 drafted None = false

@@ -1,24 +1,27 @@
 // The directory: the names in use, each with its mark, its kinds and how many rows it has.
-ghost use Rattle.std.specs.Prelude.{◌≡◌, ◌+◌, ◌<◌, ◌≤◌, true, false, length, get_or, replicate, MatchOption, slice_index_or, slice_set};
+ghost use Rattle.std.specs.Prelude.{◌≡◌, ◌+◌, ◌<◌, true, false, get_or, replicate, MatchResult, slice_index_or, slice_set, Decides};
+ghost use Rattle.relation.specs.Few.{items};
 ghost use Rattle.relation.specs.Values.{word};
 ghost use Rattle.words.specs.Name.{is_name};
-ghost use Rattle.relation.specs.Bounds.{most_columns, most_entries, most_stored};
-ghost use Rattle.register.specs.Layout.{free, vacant, bearer, is_free, is_draft, is_published, grown, issued_entry, Begun};
+ghost use Rattle.relation.specs.Bounds.{most_entries, most_stored};
+ghost use Rattle.relation.specs.declared.refusals.Reason.TheVariants as no;
+ghost use Rattle.register.specs.Layout.{free, bearer, grown, issued_entry, Begun, Vacant, EachVacant};
 
 use relation::bounds::ENTRIES;
 use relation::columns::Kinds;
 use relation::kinds::Kind;
+use relation::refusals::Reason;
 use relation::values::word_value;
 use words::names::is_name;
 
 // A name, by the number that it is held as like any word.
-#[derive(Clone, Copy)]
+#[derive(Clone, Copy, PartialEq, Eq)]
 pub struct Name {
     pub(crate) code: u64,
 }
 
 // What an entry is in use for.
-#[derive(Clone, Copy)]
+#[derive(Clone, Copy, PartialEq, Eq)]
 pub enum Mark {
     Free,
     // Rows may be put; the holder of the slip publishes or abandons it.
@@ -36,110 +39,83 @@ pub struct Entry {
     pub(crate) count: usize,
 }
 
+// A table of entries that lies in place, since nothing is allocated. An entry is changed inside a method alone, and never handed out to be changed.
 #[derive(Clone, Copy)]
 pub struct Directory {
     pub(crate) entries: [Entry; ENTRIES],
 }
 
-const FREE: Entry = Entry {
-    name: Name { code: 0 },
-    mark: Mark::Free,
-    kinds: Kinds {
-        count: 0,
-        at: [
-            Kind::Number,
-            Kind::Number,
-            Kind::Number,
-            Kind::Number,
-            Kind::Number,
-            Kind::Number,
-        ],
-    },
-    count: 0,
-};
+// The name that the bytes are.
+impl TryFrom<&[u8]> for Name {
+    type Error = Reason;
 
-impl Name {
-    // The name that the bytes are.
-    pub fn read(bytes: &[u8]) -> Option<Name>
-        ensures { MatchOption result (is_name bytes.now ≡ false) (λ n. (is_name bytes.now ≡ true) × (n.code ≡ word bytes.now)) }
-    {
+    ghost try_from_gives = { λ bytes result. MatchResult result (λ n. (is_name bytes.now ≡ true) × (n.code ≡ word bytes.now)) (λ e. (is_name bytes.now ≡ false) × (e ≡ no.Name)) };
+
+    fn try_from(bytes: &[u8]) -> Result<Name, Reason> {
         if !is_name(bytes) {
-            return None;
+            return Err(Reason::Name);
         }
-        match word_value(bytes) {
-            Some(value) => Some(Name { code: value as u64 }),
-            None => None,
-        }
-    }
-}
-
-impl Mark {
-    pub fn is_free(self) -> bool
-        ensures { result ≡ is_free self }
-    {
-        match self {
-            Mark::Free => true,
-            Mark::Draft | Mark::Published => false,
-        }
-    }
-
-    pub fn is_draft(self) -> bool
-        ensures { result ≡ is_draft self }
-    {
-        match self {
-            Mark::Draft => true,
-            Mark::Free | Mark::Published => false,
-        }
-    }
-
-    pub fn is_published(self) -> bool
-        ensures { result ≡ is_published self }
-    {
-        match self {
-            Mark::Published => true,
-            Mark::Free | Mark::Draft => false,
-        }
+        let value = word_value(bytes).ok_or(Reason::Name)?;
+        Ok(Name { code: value as u64 })
     }
 }
 
 impl Entry {
-    // The entry for a new draft.
-    pub fn draft(name: Name, kinds: &[Kind]) -> Entry
-        requires { length kinds.now ≤ most_columns }
-        ensures { Begun result name.code kinds.now }
+    // An entry that is not in use.
+    fn free() -> Entry
+        ensures { Vacant result }
     {
-        let mut at = [Kind::Number; 6];
-        at[0..kinds.len()].copy_from_slice(kinds);
+        Entry {
+            name: Name { code: 0 },
+            mark: Mark::Free,
+            kinds: Kinds::new(Kind::Number),
+            count: 0,
+        }
+    }
+
+    // The entry for a new draft.
+    pub fn draft(name: Name, kinds: Kinds) -> Entry
+        ensures { Begun result name.code (items kinds) }
+    {
         Entry {
             name,
             mark: Mark::Draft,
-            kinds: Kinds {
-                count: kinds.len(),
-                at,
-            },
+            kinds,
             count: 0,
         }
+    }
+
+    // Whether the entry has the mark.
+    pub fn is_marked(&self, mark: Mark) -> bool
+        ensures { Decides result (self.now.mark ≡ mark) }
+    {
+        self.mark == mark
     }
 
     // Whether the entry is in use under the name.
     pub fn answers_to(&self, name: Name) -> bool
         ensures { result ≡ bearer self.now name.code }
     {
-        match self.mark {
-            Mark::Free => false,
-            Mark::Draft | Mark::Published => self.name.code == name.code,
-        }
+        self.mark != Mark::Free && self.name == name
     }
 }
 
 impl Directory {
     // A directory with no entry in use.
     pub fn empty() -> Directory
-        ensures { result.entries ≡ replicate most_entries vacant }
+        ensures { EachVacant result.entries }
     {
         Directory {
-            entries: [FREE; ENTRIES],
+            entries: [Entry::free(); ENTRIES],
         }
+    }
+
+    // The entry at a place.
+    pub fn at(&self, i: usize) -> Entry
+        requires { i < most_entries }
+        ensures { result ≡ get_or self.now.entries i free }
+    {
+        self.entries[i]
     }
 
     // Puts an entry at a place.
@@ -147,19 +123,17 @@ impl Directory {
         requires { i < most_entries }
         ensures { self.new.entries ≡ slice_set self.old.entries i entry }
     {
-        let e = &mut self.entries[i];
-        *e = entry;
+        self.entries[i] = entry;
     }
 
     // Gives an entry up, and answers how many rows it had.
     pub fn clear(&mut self, i: usize) -> usize
         requires { i < most_entries }
-        ensures after { self.new.entries ≡ slice_set self.old.entries i vacant }
+        ensures after { (e : Entry) × Vacant e × (self.new.entries ≡ slice_set self.old.entries i e) }
         ensures count { result ≡ (get_or self.old.entries i free).count }
     {
-        let e = &mut self.entries[i];
-        let count = e.count;
-        *e = FREE;
+        let count = self.entries[i].count;
+        self.entries[i] = Entry::free();
         count
     }
 

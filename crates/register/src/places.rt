@@ -2,34 +2,23 @@
 ghost use Rattle.std.specs.Prelude.{◌≡◌, ◌+◌, ◌-◌, ◌<◌, ◌≤◌, ◌∷◌, ◌++◌, length, take, drop, replicate};
 ghost use Rattle.relation.specs.Stored.{blank_row};
 ghost use Rattle.relation.specs.Bounds.{most_stored};
-ghost use Rattle.register.specs.Layout.{total, Finds, Spare};
+ghost use Rattle.register.specs.Layout.{total, first_free, Finds};
 
-use crate::entries::{Entry, Name};
-use collect::blanks::fill;
+use crate::entries::{Entry, Mark, Name};
 use relation::rows::Row;
 
 // The place of the entry that bears the name.
 pub fn find(entries: &[Entry], name: Name) -> Option<usize>
     ensures { Finds entries.now name.code result }
 {
-    for (i, e) in entries.iter().enumerate() {
-        if e.answers_to(name) {
-            return Some(i);
-        }
-    }
-    None
+    entries.iter().position(|e| e.answers_to(name))
 }
 
 // The first place that is not in use.
 pub fn spare(entries: &[Entry]) -> Option<usize>
-    ensures { Spare entries.now result }
+    ensures { result ≡ first_free entries.now }
 {
-    for (i, e) in entries.iter().enumerate() {
-        if e.mark.is_free() {
-            return Some(i);
-        }
-    }
-    None
+    entries.iter().position(|e| e.mark == Mark::Free)
 }
 
 // How many rows belong to the entries.
@@ -37,11 +26,7 @@ pub fn sum(entries: &[Entry]) -> usize
     requires { total entries.now ≤ most_stored }
     ensures { result ≡ total entries.now }
 {
-    let mut n = 0;
-    for e in entries {
-        n += e.count;
-    }
-    n
+    entries.iter().map(|e| e.count).sum()
 }
 
 // How many rows belong to the entries before a place.
@@ -50,7 +35,7 @@ pub fn start(entries: &[Entry], i: usize) -> usize
     requires fits { total entries.now ≤ most_stored }
     ensures { result ≡ total (take i entries.now) }
 {
-    sum(&entries[0..i])
+    sum(&entries[..i])
 }
 
 // Writes the row at a place, and moves those from there to `used` on by one.
@@ -70,7 +55,7 @@ pub fn close(rows: &mut [Row], at: usize, count: usize, used: usize)
     ensures { rows.new ≡ take at rows.old ++ (take (used - at - count) (drop (at + count) rows.old) ++ (replicate count blank_row ++ drop used rows.old)) }
 {
     rows[at..used].rotate_left(count);
-    fill(rows, used - count, used, Row::blank());
+    rows[used - count..used].fill(Row::blank());
 }
 
 // Writes `new` in the place of the first of `count` rows, takes the others out, moves those from there to

@@ -5,7 +5,7 @@ ghost use Rattle.relation.specs.Refusals.{plain?};
 ghost use Rattle.relation.specs.Stored.{blank_row};
 ghost use Rattle.relation.specs.Values.{word};
 ghost use Rattle.tree.specs.Trees.{blank as blank_node};
-ghost use Rattle.register.specs.Layout.{Room, Blanks, Apart, Empty, Wide, Fitting};
+ghost use Rattle.register.specs.Layout.{Room, Blanks, Apart, Empty, Fitting};
 ghost use Rattle.register.specs.State.{held, used, rows_of, Drafted, Put, Issued, Removed, blanked};
 ghost use Rattle.register.specs.Refusals.{err_of, draft_no, put_no, publish_no, handed_back, abandon_no, drop_no, show_no, show_text, Shown};
 ghost use Rattle.register.specs.Runs.{Step};
@@ -15,7 +15,6 @@ use crate::entries::Directory;
 use crate::slips::Slip;
 use crate::store::Store;
 use crate::works::blank_work;
-use collect::blanks::fill;
 use relation::bounds::MOST_STORED;
 use relation::kinds::Kind;
 use relation::refusals::{Reason, Refusal};
@@ -31,7 +30,6 @@ pub struct Register<'a> {
     ghost blanks: { Blanks store.directory.entries store.rows.now },
     ghost apart: { Apart store.directory.entries },
     ghost empty: { Empty store.directory.entries },
-    ghost wide: { Wide store.directory.entries },
     ghost fitting: { Fitting store.directory.entries store.rows.now },
 }
 
@@ -47,7 +45,7 @@ impl<'a> Register<'a> {
         ensures accounts { Accounts [] result.store }
     {
         let n = rows.len().min(MOST_STORED);
-        fill(rows, 0, n, Row::blank());
+        rows[..n].fill(Row::blank());
         let directory = Directory::empty();
         Register {
             number,
@@ -95,8 +93,9 @@ impl<'a> Register<'a> {
     {
         let Some(i) = self.store.draft_of(self.number, &slip) else {
             blank_work(work, index);
-            return Err((Refusal::plain(Reason::SlipMisfit), slip));
+            return Err((Reason::SlipMisfit.into(), slip));
         };
+        // The slip is spent or handed back, so it goes another way in each arm.
         match self.store.publish(i, work, index) {
             Ok(kept) => {
                 let Slip {
@@ -122,10 +121,8 @@ impl<'a> Register<'a> {
             register: _,
             name: _,
         } = slip;
-        match place {
-            Some(i) => Ok(self.store.clear(i)),
-            None => Err(Refusal::plain(Reason::SlipMisfit)),
-        }
+        let i = place.ok_or(Reason::SlipMisfit)?;
+        Ok(self.store.clear(i))
     }
 
     // Frees a published relation, and answers how many rows it had.
@@ -136,10 +133,8 @@ impl<'a> Register<'a> {
         ensures steps { Step self.old.number (dropped name.now (is_err result)) self.old.store self.new.store }
         ensures accounts { (h : List Event) → Accounts h self.old.store → Accounts (dropped name.now (is_err result) ∷ h) self.new.store }
     {
-        match self.store.published_at(name) {
-            Some(place) => Ok(self.store.clear(place)),
-            None => Err(Refusal::plain(Reason::Name)),
-        }
+        let i = self.store.published_at(name).ok_or(Reason::Name)?;
+        Ok(self.store.clear(i))
     }
 
     // Writes a published relation as text: `NAME KINDS ROWS`, then a line `FROM UNTIL VALUE ..` for each row.

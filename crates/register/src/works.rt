@@ -1,19 +1,18 @@
-// Work areas.
+// Work areas: rows and an index, two areas that a caller lends, each of which can be too short by itself.
 ghost use Rattle.std.specs.List.{list_all};
 ghost use Rattle.std.specs.Prelude.{◌≡◌, ◌+◌, ◌≤◌, true, length};
 ghost use Rattle.relation.specs.Bounds.{most_stored};
 ghost use Rattle.relation.specs.Rows.{on as day_sets};
-ghost use Rattle.relation.specs.Stored.{blank_row, listed as kind_list};
+ghost use Rattle.relation.specs.Stored.{blank_row};
 ghost use Rattle.collect.specs.Collects.{Collects};
 ghost use Rattle.tree.specs.Trees.{blank as blank_node};
 ghost use Rattle.register.specs.Layout.{part_of, is_few, good_row};
 ghost use Rattle.register.specs.State.{blanked};
 ghost use Rattle.register.specs.Refusals.{work_no};
 
-use collect::blanks::fill;
 use collect::collects::collect;
 use relation::bounds::MOST_WORK;
-use relation::columns::Kinds;
+use relation::kinds::Kind;
 use relation::refusals::Refusal;
 use relation::rows::Row;
 use source::tables::Table;
@@ -25,15 +24,15 @@ pub fn coalesce_part(
     rows: &[Row],
     start: usize,
     len: usize,
-    kinds: Kinds,
+    kinds: &[Kind],
     work: &mut [Row],
     index: &mut [Node],
 ) -> Result<usize, Refusal>
     requires within { start + len ≤ length rows.now }
     requires places { length rows.now ≤ most_stored }
-    requires few { is_few (kind_list kinds) ≡ true }
-    requires good { list_all (good_row (kind_list kinds)) (part_of kinds start len rows.now) ≡ true }
-    ensures { Collects (work_no (length (part_of kinds start len rows.now)) work.old index.old) (day_sets (part_of kinds start len rows.now)) work.old index.old result work.new index.new }
+    requires few { is_few kinds.now ≡ true }
+    requires good { list_all (good_row kinds.now) (part_of kinds.now start len rows.now) ≡ true }
+    ensures { Collects (work_no (length (part_of kinds.now start len rows.now)) work.old index.old) (day_sets (part_of kinds.now start len rows.now)) work.old index.old result work.new index.new }
 {
     let table = Table::new(rows, start, len, kinds, false);
     collect(&table, work, index)
@@ -45,7 +44,7 @@ pub fn blank_work(work: &mut [Row], index: &mut [Node])
     ensures index { index.new ≡ blanked blank_node index.old }
 {
     let rows_end = work.len().min(MOST_WORK);
-    fill(work, 0, rows_end, Row::blank());
+    work[..rows_end].fill(Row::blank());
     let index_end = index.len().min(MOST_WORK);
-    fill(index, 0, index_end, Node::blank());
+    index[..index_end].fill(Node::blank());
 }

@@ -50,9 +50,8 @@ impl<'a> Iterator for Words<'a> {
     ghost remaining = { item_count words_left };
 
     fn next(&mut self) -> Option<Word<'a>>
-        ensures steps { YieldsFirstBy (λ w. (w.place, w.text.now)) words_left self.old result self.new }
+        ensures steps { (self.new.line ≡ self.old.line) × YieldsFirstBy (λ w. (w.place, w.text.now)) words_left self.old result self.new }
         ensures goes { MakesProgress (λ _. ⊤) (item_count words_left) self.old result self.new }
-        ensures kept { self.new.line ≡ self.old.line }
     {
         let ahead = self.line.get(self.at..)?;
         let place = self.at + leading_spaces(ahead)?;

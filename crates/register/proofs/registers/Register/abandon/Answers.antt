@@ -1,4 +1,6 @@
-use Rattle.std.proofs.Common.{◌≡◌, ℕ, true, false, get_or, is_some, Some, None, sym, refl, ap, ◌∙◌, subst, rules}
+use Rattle.std.proofs.Common.{◌≡◌, ℕ, true, false, get_or, is_some, None, sym, refl, ap, subst, rules}
+use Rattle.std.proofs.lemmas.Option.{MatchOption-at_some, MatchOption-at_none}
+use Rattle.relation.specs.declared.refusals.Reason.TheVariants as no
 use Rattle.relation.specs.Refusals.{plain?}
 use Rattle.register.specs.Layout.{free}
 use Rattle.register.specs.State.{held, size_of, Leaves, Removed}
@@ -6,19 +8,20 @@ use Rattle.register.specs.History.{abandoned}
 use Rattle.register.proofs.Changes.{draft_bears}
 use Rattle.register.proofs.Days.{kept}
 use Rattle.register.proofs.Fits.{slip_ok, slip_no}
+use Rattle.register.proofs.Refused.{refused_by}
 use Rattle.register.proofs.registers.Register.abandon.Goals as goal
 
 pub clear-requires : goal.clear-requires
 clear-requires c =
-    let f = c.in-Some.ensures in
-    record { whole = search rules; within = f.1; stands = draft_bears (get_or c.args.self.now.store.directory.entries c.in-Some.i free) f.2 }
+    let f = MatchOption-at_some _ _ c.in_ok-i.i c.in_ok-i.ensures.ok_part c.draft_of-place.ensures in
+    record { whole = search rules; within = f.1; stands = draft_bears (get_or c.args.self.now.store.directory.entries c.in_ok-i.i free) f.2 }
 
-pub returns-in-Some : goal.returns-in-Some
-returns-in-Some c =
+pub returns : goal.returns
+returns c =
     let s = c.args.self.now.store in
     let t = c.clear.new.self in
     let slip = c.args.slip in
-    let f = c.in-Some.ensures in
+    let f = MatchOption-at_some _ _ c.in_ok-i.i c.in_ok-i.ensures.ok_part c.draft_of-place.ensures in
     let done : Removed s t slip.name.code c.clear.result = record {
       leaves = subst (λ (n : ℕ). Leaves s t n None) f.3 c.clear.ensures.leaves;
       size = subst (λ (n : ℕ). c.clear.result ≡ size_of (held s n)) f.3 c.clear.ensures.size;
@@ -32,15 +35,16 @@ returns-in-Some c =
       accounts = λ h acc. kept (abandoned slip false) h s t (c.clear.result, done) acc;
     }
 
-pub returns-in-None : goal.returns-in-None
-returns-in-None c =
+pub returns-in_err-i : goal.returns-in_err-i
+returns-in_err-i c =
     let s = c.args.self.now.store in
     let slip = c.args.slip in
-    let no = slip_no c.args.self.now.number s slip c.in-None.ensures in
-    record {
+    let no_slip = slip_no c.args.self.now.number s slip (MatchOption-at_none _ _ c.in_err-i.ensures.ok_part c.draft_of-place.ensures) in
+    rw (refused_by c.draft_of-place.result no.SlipMisfit _ c.from_residual.result c.in_err-i.ensures.ok_part c.in_err-i.ensures.value c.from_residual.ensures.1)
+    (record {
       number = refl;
-      refused = ap Some c.plain.ensures ∙ sym (ap plain? no);
+      refused = sym (ap plain? no_slip);
       after = refl;
-      steps = record { exact = sym (ap is_some no); left = refl };
+      steps = record { exact = sym (ap is_some no_slip); left = refl };
       accounts = λ h acc. kept (abandoned slip true) h s s refl acc;
-    }
+    })

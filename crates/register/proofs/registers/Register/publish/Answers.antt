@@ -18,7 +18,7 @@ returns-in_default c =
     let no = publish_slip c.args.self.now.number s slip c.args.work.now c.args.index.now c.in_default.ensures in
     record {
       number = refl;
-      refused = handed_err _ _ slip (ap Some c.plain.ensures ∙ sym (ap plain? no));
+      refused = handed_err _ _ slip (ap Some c.into.ensures ∙ sym (ap plain? no));
       after = refl;
       work = c.blank_work.ensures.work;
       index = c.blank_work.ensures.index;

@@ -1,6 +1,7 @@
 use Rattle.std.proofs.Common.{◌+◌, ◌∙◌, arith}
+use Rattle.std.proofs.lemmas.List.Sums.{sum_by-take-le}
 use Rattle.register.specs.Layout.{free}
-use Rattle.register.proofs.Storage.{total_take, total_split}
+use Rattle.register.proofs.Storage.{total_split}
 use Rattle.register.proofs.Changes.{add_result}
 use Rattle.register.proofs.store.Store.add.Goals as goal
 
@@ -12,7 +13,7 @@ start-at-requires c = record { within = omega (arith, c.requires.whole.all); fit
 
 pub open-requires : goal.open-requires
 open-requires c =
-    let t = total_take c.args.self.now.directory.entries (c.args.i + 1) in
+    let t = sum_by-take-le (λ e. e.count) c.args.self.now.directory.entries (c.args.i + 1) in
     record { low = omega arith; high = omega arith }
 
 pub grow-requires : goal.grow-requires

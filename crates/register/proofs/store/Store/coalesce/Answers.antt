@@ -1,12 +1,12 @@
 use Rattle.std.specs.List.{list_all}
-use Rattle.std.proofs.Common.{◌<◌, List, map, length, get_or, ap, ◌∙◌, subst, arith}
-use Rattle.relation.specs.declared.rows.Row.{Row}
-use Rattle.relation.specs.Rows.{on}
-use Rattle.relation.specs.Stored.{listed, meant}
+use Rattle.std.proofs.Common.{◌≡◌, ◌<◌, List, map, length, get_or, take, drop, ap, ◌∙◌, subst, arith}
+use Rattle.relation.specs.Rows.{SpecRow, on}
+use Rattle.relation.specs.Few.{items}
+use Rattle.relation.specs.Stored.{meant}
 use Rattle.collect.specs.Collects.{Collects}
-use Rattle.register.specs.Layout.{free, is_free, good_row}
+use Rattle.register.specs.Layout.{free, is_free, is_few, good_row}
 use Rattle.register.specs.Refusals.{work_no}
-use Rattle.register.proofs.Changes.{good_at}
+use Rattle.register.proofs.Changes.{old, good_at}
 use Rattle.register.proofs.Publishing.{part_in}
 use Rattle.register.proofs.store.Store.coalesce.Goals as goal
 
@@ -22,11 +22,14 @@ coalesce_part-requires c =
     let l : i < length es = omega (arith, c.requires.whole.all, c.requires.within) in
     let p = part_in es s.rows.now i c.capacity-capacity.result c.start-at.result c.requires.whole l c.capacity-capacity.ensures c.start-at.ensures in
     let g = good_at es s.rows.now i c.requires.whole l (ap is_free c.requires.draft) in
+    let ks : c.as_slice-kinds.result.now ≡ items e.kinds = c.as_slice-kinds.ensures.items ∙ ap (λ x. items x.kinds) c.at-entry.ensures in
+    let n : c.at-entry.result.count ≡ e.count = ap (λ x. x.count) c.at-entry.ensures in
     record {
-      within = p.0;
+      within = omega (arith, p.0, n);
       places = p.1;
-      few = g.few;
-      good = ap (λ (x : List Row). list_all (good_row (listed e.kinds)) (map (meant e.kinds.count) x)) p.2 ∙ g.rows_good;
+      few = ap is_few ks ∙ g.few;
+      good = (λ j. list_all (good_row (ks j)) (map (meant (length (ks j))) (take (n j) (drop c.start-at.result (take c.capacity-capacity.result s.rows.now)))))
+          ∙ (ap (λ x. list_all (good_row (items e.kinds)) (map (meant (length (items e.kinds))) x)) p.2 ∙ g.rows_good);
     }
 
 pub returns : goal.returns
@@ -37,4 +40,8 @@ returns c =
     let e = get_or es i free in
     let l : i < length es = omega (arith, c.requires.whole.all, c.requires.within) in
     let p = part_in es s.rows.now i c.capacity-capacity.result c.start-at.result c.requires.whole l c.capacity-capacity.ensures c.start-at.ensures in
-    subst (λ (x : List Row). Collects (work_no (length (map (meant e.kinds.count) x)) c.args.work.now c.args.index.now) (on (map (meant e.kinds.count) x)) c.args.work.now c.args.index.now c.coalesce_part.result c.coalesce_part.new.work c.coalesce_part.new.index) p.2 c.coalesce_part.ensures
+    let ks : c.as_slice-kinds.result.now ≡ items e.kinds = c.as_slice-kinds.ensures.items ∙ ap (λ x. items x.kinds) c.at-entry.ensures in
+    let n : c.at-entry.result.count ≡ e.count = ap (λ x. x.count) c.at-entry.ensures in
+    let same : map (meant (length c.as_slice-kinds.result.now)) (take c.at-entry.result.count (drop c.start-at.result (take c.capacity-capacity.result s.rows.now))) ≡ map (meant (length (items e.kinds))) (old es s.rows.now i) =
+    (λ j. map (meant (length (ks j))) (take (n j) (drop c.start-at.result (take c.capacity-capacity.result s.rows.now)))) ∙ ap (map (meant (length (items e.kinds)))) p.2 in
+    subst (λ (xs : List SpecRow). Collects (work_no (length xs) c.args.work.now c.args.index.now) (on xs) c.args.work.now c.args.index.now c.coalesce_part.result c.coalesce_part.new.work c.coalesce_part.new.index) same c.coalesce_part.ensures

@@ -1,30 +1,54 @@
-use Rattle.std.proofs.Common.{Some, sym, refl, ap, ◌∙◌, arith}
+use Rattle.std.proofs.Common.{◌≡◌, ◌+◌, ◌-◌, map, length, get_or, take, drop, sym, refl, ap, ◌∙◌, arith}
+use Rattle.std.proofs.lemmas.Option.{MatchOption-at_some, MatchOption-at_none}
+use Rattle.relation.specs.declared.refusals.Reason.TheVariants as no
+use Rattle.relation.specs.Few.{items}
 use Rattle.relation.specs.Refusals.{plain?}
+use Rattle.relation.specs.Stored.{meant}
+use Rattle.listing.specs.Text.{list_text}
+use Rattle.register.specs.Layout.{free}
+use Rattle.register.proofs.Refused.{refused_by}
 use Rattle.register.proofs.Showing.{place_in, text_at, show_result, show_none}
 use Rattle.register.proofs.store.Store.show.Goals as goal
 
 pub start-at-requires : goal.start-at-requires
-start-at-requires c = let f = c.in-Some.ensures in record { within = omega (arith, c.requires.all, f.1); fits = omega (arith, c.requires.room) }
+start-at-requires c = let f = MatchOption-at_some _ _ c.in_ok-i.i c.in_ok-i.ensures.ok_part c.published_at.ensures in record { within = omega (arith, c.requires.all, f.1); fits = omega (arith, c.requires.room) }
+
+pub at-entry-requires : goal.at-entry-requires
+at-entry-requires c = (MatchOption-at_some _ _ c.in_ok-i.i c.in_ok-i.ensures.ok_part c.published_at.ensures).1
 
 pub overflow_add-rows : goal.overflow_add-rows
-overflow_add-rows c = let p = place_in c.args.self.now.directory.entries c.args.self.now.rows.now c.in-Some.i c.start-at.result c.requires c.in-Some.ensures.1 c.start-at.ensures in omega (arith, p.1)
+overflow_add-rows c =
+    let f = MatchOption-at_some _ _ c.in_ok-i.i c.in_ok-i.ensures.ok_part c.published_at.ensures in
+    let p = place_in c.args.self.now.directory.entries c.args.self.now.rows.now c.in_ok-i.i c.start-at.result c.requires f.1 c.start-at.ensures in
+    omega (arith, p.1, ap (λ x. x.count) c.at-entry.ensures)
 
 pub offset_bounds-self-at : goal.offset_bounds-self-at
-offset_bounds-self-at c = let p = place_in c.args.self.now.directory.entries c.args.self.now.rows.now c.in-Some.i c.start-at.result c.requires c.in-Some.ensures.1 c.start-at.ensures in omega (arith, p.1)
+offset_bounds-self-at c =
+    let f = MatchOption-at_some _ _ c.in_ok-i.i c.in_ok-i.ensures.ok_part c.published_at.ensures in
+    let p = place_in c.args.self.now.directory.entries c.args.self.now.rows.now c.in_ok-i.i c.start-at.result c.requires f.1 c.start-at.ensures in
+    omega (arith, p.1)
 
 pub slice_bounds-rows-end : goal.slice_bounds-rows-end
-slice_bounds-rows-end c = (place_in c.args.self.now.directory.entries c.args.self.now.rows.now c.in-Some.i c.start-at.result c.requires c.in-Some.ensures.1 c.start-at.ensures).0
+slice_bounds-rows-end c =
+    let f = MatchOption-at_some _ _ c.in_ok-i.i c.in_ok-i.ensures.ok_part c.published_at.ensures in
+    let p = place_in c.args.self.now.directory.entries c.args.self.now.rows.now c.in_ok-i.i c.start-at.result c.requires f.1 c.start-at.ensures in
+    omega (arith, p.0, ap (λ x. x.count) c.at-entry.ensures)
 
-pub returns-in_default : goal.returns-in_default
-returns-in_default c = record {
-  refused = ap Some c.plain.ensures ∙ sym (ap plain? (show_none c.args.self.now c.args.name.now c.args.output.now c.in_default.ensures));
-  after = refl;
-}
+pub returns-in_err-i : goal.returns-in_err-i
+returns-in_err-i c =
+    let none = MatchOption-at_none _ _ c.in_err-i.ensures.ok_part c.published_at.ensures in
+    rw (refused_by c.published_at.result no.Name _ c.from_residual.result c.in_err-i.ensures.ok_part c.in_err-i.ensures.value c.from_residual.ensures.1)
+    (record { refused = sym (ap plain? (show_none c.args.self.now c.args.name.now c.args.output.now none)); after = refl })
 
 pub returns : goal.returns
 returns c =
     let s = c.args.self.now in
-    let f = c.in-Some.ensures in
+    let i = c.in_ok-i.i in
+    let at = c.start-at.result in
+    let e = get_or s.directory.entries i free in
+    let f = MatchOption-at_some _ _ c.in_ok-i.i c.in_ok-i.ensures.ok_part c.published_at.ensures in
+    let ks : c.as_slice.result.now ≡ items e.kinds = c.as_slice.ensures.items ∙ ap (λ x. items x.kinds) c.at-entry.ensures in
+    let n : c.at-entry.result.count ≡ e.count = ap (λ x. x.count) c.at-entry.ensures in
     let r = show_result s c.args.name.now _ c.args.output.now c.write_list.new.output c.write_list.result f.0
-    (text_at s c.args.name.now c.in-Some.i c.start-at.result c.requires f.1 f.2 f.3 c.start-at.ensures) c.write_list.ensures in
+    ((λ j. list_text c.args.name.now (ks j) (map (meant (length (ks j))) (take (at + n j - at) (drop at s.rows.now)))) ∙ text_at s c.args.name.now i at c.requires f.1 f.2 f.3 c.start-at.ensures) c.write_list.ensures in
     record { refused = r.0; after = r.1 }

@@ -1,4 +1,4 @@
-use Rattle.std.proofs.Common.{◌≡◌, ℕ, ◌+◌, ◌-◌, ◌∷◌, List, Bor, length, take, drop, not, Some, sym, ap, ◌∙◌, subst, arith}
+use Rattle.std.proofs.Common.{◌≡◌, ℕ, ◌+◌, ◌-◌, ◌∷◌, List, Bor, length, take, drop, not, Some, sym, refl, ap, ◌∙◌, subst, arith}
 use Rattle.std.specs.Iterator.{YieldsFirstBy}
 use Rattle.std.specs.List.{position, position_or_len}
 use Rattle.std.specs.Slice.{IsGetRangeResult}
@@ -19,7 +19,7 @@ returns-in_err-place-clause-steps c =
     let s = c.args.self.now in
     let ahead = ahead_is s.line.now s.at c.in_ok-ahead.ahead c.in_ok-ahead.ensures.lookup in
     let none = no_word s.at (drop s.at s.line.now) (c.in_err-place.ensures ∙ ap (position other) ahead) in
-    subst (λ r. YieldsFirstBy (λ (w : Word). (w.place, w.text.now)) words_left s r s) (sym c.from_residual-in_err-place.ensures) (none, none)
+    (refl, subst (λ r. YieldsFirstBy (λ (w : Word). (w.place, w.text.now)) words_left s r s) (sym c.from_residual-in_err-place.ensures) (none, none))
 
 pub returns-clause-steps : goal.returns-clause-steps
 returns-clause-steps c =
@@ -33,10 +33,12 @@ returns-clause-steps c =
     let same : take (length line - (p + k)) ws ≡ ws = take_rest line (p + k) in
     let at : n ≡ position_or_len space ws = c.length_before.ensures ∙ ap (position_or_len space) same in
     let le = prefix_len-le-length (λ x. not (space x)) ws in
-    let m : n ≡ length (take n ws) = sym (length-take-le n ws (omega arith)) in
-    next_word line p k n (c.in_ok-place.ensures ∙ ap (position other) ahead) at
-    ∙ ap (λ j. (p + k, take n ws) ∷ left line (p + k + j)) m
-    ∙ ap (λ l. (p + k, take n l) ∷ left line (p + k + length (take n l))) (sym same)
+    let m : n ≡ length (take n ws) = sym (length-take-le n ws (omega arith)) in (
+      refl,
+      next_word line p k n (c.in_ok-place.ensures ∙ ap (position other) ahead) at
+      ∙ ap (λ j. (p + k, take n ws) ∷ left line (p + k + j)) m
+      ∙ ap (λ l. (p + k, take n l) ∷ left line (p + k + length (take n l))) (sym same),
+    )
 
 pub returns-clause-goes : goal.returns-clause-goes
-returns-clause-goes c = let e = ap length (returns-clause-steps c) in record { on = λ _. (tt, tt, omega arith); keeps = tt; rests = λ _. tt }
+returns-clause-goes c = let e = ap length (returns-clause-steps c).1 in record { on = λ _. (tt, tt, omega arith); keeps = tt; rests = λ _. tt }
