@@ -54,19 +54,19 @@ module _ (m : Meaning) (s : Sound m) (entry rows : List Row) (is : rows ≡ map 
   size : length (map stored xs) ≡ n
   size = length-map xs stored ∙ sym all
 
-  front : take n (take (e - 0) rows) ≡ map stored xs
-  front = take-take n (e - 0) rows (omega arith) ∙ ap (take n) is ∙ take_front n (map stored xs) (drop (length xs) entry) size
+  front : take n (take e rows) ≡ map stored xs
+  front = take-take n e rows (omega arith) ∙ ap (take n) is ∙ take_front n (map stored xs) (drop (length xs) entry) size
 
-  pub loaded_tidy : AllOf (Tidy c) (take n (take (e - 0) rows))
+  pub loaded_tidy : AllOf (Tidy c) (take n (take e rows))
   loaded_tidy = subst (AllOf (Tidy c)) (sym front) (All-map (Tidy c) stored xs (All-weaker (Fitted c) (λ x. Tidy c (stored x)) (λ x f. tidy_stored c x s.few_kinds f.0) xs (fitted m s m.count)))
 
-  pub loaded_means : map (meant c) (take n (take (e - 0) rows)) ≡ xs
+  pub loaded_means : map (meant c) (take n (take e rows)) ≡ xs
   loaded_means = ap (map (meant c)) front ∙ meant_all c xs s.few_kinds (fitted m s m.count)
 
-  pub loaded_periods : (i : ℕ) → i < n → Period (bare (get_or (take (e - 0) rows) i no_row))
+  pub loaded_periods : (i : ℕ) → i < n → Period (bare (get_or (take e rows) i no_row))
   loaded_periods i lt =
       let h : AllOf (λ w. Period (bare w)) (map stored xs) = All-map (λ w. Period (bare w)) stored xs (All-weaker (Fitted c) Period (λ x f. f.1) xs (fitted m s m.count)) in
-      subst (λ w. Period (bare w)) (ap (λ ws. get_or ws i no_row) (sym front) ∙ get_or-take n (take (e - 0) rows) i no_row lt) (All-get_or (λ w. Period (bare w)) (map stored xs) i no_row (omega (arith, size)) h)
+      subst (λ w. Period (bare w)) (ap (λ ws. get_or ws i no_row) (sym front) ∙ get_or-take n (take e rows) i no_row lt) (All-get_or (λ w. Period (bare w)) (map stored xs) i no_row (omega (arith, size)) h)
 
   pub loaded_rest : drop e rows ≡ drop e entry
   loaded_rest =

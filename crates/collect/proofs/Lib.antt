@@ -1,5 +1,5 @@
 pub mod Written
-pub mod Skips
+pub mod Rowcount
 pub mod Filling
 pub mod Swaps
 pub mod Moving
@@ -8,6 +8,7 @@ pub mod Sweeping
 pub mod Indexed
 pub mod Narrow
 pub mod Arranged
+pub mod Listed
 pub mod Lent
 pub mod Relisted
 pub mod Gathered

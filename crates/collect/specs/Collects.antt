@@ -9,7 +9,7 @@ use Rattle.relation.specs.Refusals.{plain?}
 use Rattle.relation.specs.Sets.{TupleSet}
 use Rattle.relation.specs.Rows.{SpecRow, Lists}
 use Rattle.relation.specs.Stored.{stored, blank_row}
-use Rattle.relation.specs.declared.columns.Kinds.{Kinds}
+use Rattle.relation.specs.declared.kinds.Kind.{Kind}
 use Rattle.source.specs.Tables.{table, no_table}
 use Rattle.source.specs.Meaning.{Meaning, rows_of}
 use Rattle.tree.specs.declared.Node.{Node}
@@ -48,5 +48,5 @@ first_of None q = q
 first_of (Some o) q = Some o
 
 -- the reason why rows of some kinds are not collected: they are no table, or a work area is too short
-abbrev pub no_list : List Row → Kinds → List Row → List Node → Option Reason
+abbrev pub no_list : List Row → List Kind → List Row → List Node → Option Reason
 no_list rows kinds work index = first_of (no_table rows kinds) (no_collect (table rows 0 (length rows) kinds) work index)

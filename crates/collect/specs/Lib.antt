@@ -1,3 +1,4 @@
 pub mod Areas
+pub mod Sorted
 pub mod Keys
 pub mod Collects

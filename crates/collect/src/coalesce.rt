@@ -5,22 +5,20 @@ ghost use Rattle.relation.specs.Rows.{Period, on, Lists};
 
 use relation::rows::Row;
 
-// Coalesces the first `n` rows, which stand in listing order, in place; answers how many rows are left.
+// Coalesces rows, which stand in listing order, in place; answers how many rows are left.
 // Each row either extends the last row that was written, or is written behind it.
-pub fn coalesce(rows: &mut [Row], n: usize) -> usize
-    requires within { n ≤ length rows.old }
-    requires sorted { (i j : ℕ) → i < j → j < n → Rises (slice_index_or rows.old i no_row) (slice_index_or rows.old j no_row) }
-    requires periods { (i : ℕ) → i < n → Period (bare (slice_index_or rows.old i no_row)) }
-    ensures few { result ≤ n }
-    ensures lists { Lists (map bare (take result rows.new)) (on (map bare (take n rows.old))) }
-    ensures drawn { (k : ℕ) → k < result → ((j : ℕ) × ((j < n) × ((get_or rows.new k no_row).values ≡ (get_or rows.old j no_row).values))) }
-    ensures rest { (k : ℕ) → n ≤ k → slice_index_or rows.new k no_row ≡ slice_index_or rows.old k no_row }
+pub fn coalesce(rows: &mut [Row]) -> usize
+    requires sorted { (i j : ℕ) → i < j → j < length rows.old → Rises (slice_index_or rows.old i no_row) (slice_index_or rows.old j no_row) }
+    requires periods { (i : ℕ) → i < length rows.old → Period (bare (slice_index_or rows.old i no_row)) }
+    ensures few { result ≤ length rows.old }
+    ensures lists { Lists (map bare (take result rows.new)) (on (map bare rows.old)) }
+    ensures drawn { (k : ℕ) → k < result → ((j : ℕ) × ((j < length rows.old) × ((get_or rows.new k no_row).values ≡ (get_or rows.old j no_row).values))) }
 {
-    if n == 0 {
+    if rows.is_empty() {
         return 0;
     }
     let mut last = 0;
-    for i in 1..n {
+    for i in 1..rows.len() {
         let row = rows[i];
         let open = rows[last];
         if open.values == row.values && row.first <= open.end {

@@ -7,7 +7,7 @@ ghost use Rattle.collect.specs.Collects.{no_collect, no_list, Collects};
 use crate::listing::list_rows;
 use crate::loads::{count_filled, load_rows};
 use relation::bounds::MOST_WORK;
-use relation::columns::Kinds;
+use relation::kinds::Kind;
 use relation::refusals::{Reason, Refusal};
 use relation::rows::Row;
 use source::asks::Source;
@@ -22,7 +22,6 @@ pub fn collect<S: Source>(
     rows: &mut [Row],
     index: &mut [Node],
 ) -> Result<usize, Refusal>
-    requires { S.Source.accepted source.now }
     ensures { Collects (no_collect (S.Source.meaning source.now) rows.old index.old) (day_set (S.Source.meaning source.now)) rows.old index.old result rows.new index.new }
 {
     let rows_end = rows.len().min(MOST_WORK);
@@ -30,21 +29,21 @@ pub fn collect<S: Source>(
     let limit = rows_end.min(index_end);
     let n = count_filled(source, limit);
     if n > limit {
-        return Err(Refusal::plain(Reason::ShortWork));
+        return Err(Reason::ShortWork.into());
     }
     load_rows(source, rows);
-    let kept = list_rows(&mut rows[0..rows_end], &mut index[0..index_end], n);
+    let kept = list_rows(&mut rows[..rows_end], &mut index[..index_end], n);
     Ok(kept)
 }
 
 // Collects plain rows of some kinds, each looked at first.
 pub fn collect_rows(
     rows: &[Row],
-    kinds: Kinds,
+    kinds: &[Kind],
     work: &mut [Row],
     index: &mut [Node],
 ) -> Result<usize, Refusal>
-    ensures { Collects (no_list rows.now kinds work.old index.old) (day_set (table rows.now 0 (length rows.now) kinds)) work.old index.old result work.new index.new }
+    ensures { Collects (no_list rows.now kinds.now work.old index.old) (day_set (table rows.now 0 (length rows.now) kinds.now)) work.old index.old result work.new index.new }
 {
     let table = Table::open(rows, kinds)?;
     collect(&table, work, index)

@@ -8,3 +8,4 @@ pub mod collects;
 pub mod keys;
 pub mod listing;
 pub mod loads;
+pub mod sorting;

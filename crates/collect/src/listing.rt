@@ -7,10 +7,9 @@ ghost use Rattle.relation.specs.Stored.{meant};
 ghost use Rattle.collect.specs.Areas.{no_row, bare, Tidy};
 ghost use Rattle.collect.specs.Collects.{HoldsList};
 
-use crate::arrange::arrange;
-use crate::blanks::fill;
 use crate::coalesce::coalesce;
-use crate::keys::Rows;
+use crate::keys::Listing;
+use crate::sorting::sort;
 use relation::rows::Row;
 use tree::Node;
 
@@ -24,12 +23,10 @@ pub fn list_rows(rows: &mut [Row], index: &mut [Node], n: usize) -> usize
     requires periods { (i : ℕ) → i < n → Period (bare (slice_index_or rows.old i no_row)) }
     ensures { (c : ℕ) → c ≤ most_columns → AllOf (Tidy c) (take n rows.old) → HoldsList (on (map (meant c) (take n rows.old))) (length rows.old) (length index.old) result rows.new index.new }
 {
-    let keys = Rows { rows: &rows[0..n] };
-    let root = tree::fill(index, &keys, n as u32);
-    tree::number(index, root, 0);
-    arrange(rows, index, n);
-    let kept = coalesce(rows, n);
-    fill(rows, kept, rows.len(), Row::blank());
-    fill(index, 0, index.len(), Node::blank());
+    let listed = &mut rows[..n];
+    sort(listed, index, &Listing);
+    let kept = coalesce(listed);
+    rows[kept..].fill(Row::blank());
+    index.fill(Node::blank());
     kept
 }

@@ -10,9 +10,9 @@ use Rattle.relation.specs.Rows.{Period, Holds, holds}
 use Rattle.relation.proofs.Held.{holds_decides}
 use Rattle.relation.proofs.Pigeons.{all_both}
 use Rattle.collect.specs.Areas.{no_row, bare}
-use Rattle.cuts.specs.declared.measures.Measure.{Measure}
+use Rattle.tallies.specs.declared.rules.Tally.{Tally}
 use Rattle.cuts.specs.Amounts.{value, held, amount}
-use Rattle.cuts.specs.Groups.{tuple_by}
+use Rattle.cuts.specs.Groups.{tuple_by, HeldIn}
 use Rattle.cuts.specs.Stretches.{stretch_by, stretches_by}
 use Rattle.cuts.proofs.Telling.{some?, CutAt, Says, Told}
 use Rattle.cuts.proofs.Stretching.{From, stretch_listed}
@@ -23,15 +23,11 @@ kept_same : (p q : Row → Bool) (ws : List Row) → AllOf (λ w. p w ≡ q w) w
 kept_same p q [] h = refl
 kept_same p q (w ∷ ws) h = λ k. cond (h.0 k) (w ∷ kept_same p q ws h.1 k) (kept_same p q ws h.1 k)
 
--- some row holds the day
-abbrev pub SomeHolds : List Row → ℕ → Type 0
-SomeHolds ws d = (i : ℕ) × ((i < length ws) × Holds (bare (get_or ws i no_row)) d)
-
-holder_first : (w : Row) (ws hs : List Row) (d : ℕ) → (some? hs ≡ true → SomeHolds ws d) → (b : Bool) → holds (bare w) d ≡ b → some? (cond b (w ∷ hs) hs) ≡ true → SomeHolds (w ∷ ws) d
+holder_first : (w : Row) (ws hs : List Row) (d : ℕ) → (some? hs ≡ true → HeldIn ws d) → (b : Bool) → holds (bare w) d ≡ b → some? (cond b (w ∷ hs) hs) ≡ true → HeldIn (w ∷ ws) d
 holder_first w ws hs d more true e h = (0, (omega arith, (holds_decides (bare w) d).0 e))
 holder_first w ws hs d more false e h = let s = more h in (suc s.0, (omega (arith, s.1.0), s.1.1))
 
-holder : (ws : List Row) (d : ℕ) → some? (held ws d) ≡ true → SomeHolds ws d
+holder : (ws : List Row) (d : ℕ) → some? (held ws d) ≡ true → HeldIn ws d
 holder [] d h = absurd (true≢false (sym h))
 holder (w ∷ ws) d h = holder_first w ws (held ws d) d (holder ws d) (holds (bare w) d) refl h
 
@@ -58,7 +54,7 @@ crossing f d a (suc k) lt low high = step (cases_lt d (f k)) (crossing f d a k)
         (m.0, (omega (arith, m.1.0), m.1.1))
     step (inr l) more = (k, (omega arith, (l, high)))
 
-module _ (m : Measure) (ws cs : List Row) (told : Told m ws cs) where
+module _ (m : Tally) (ws cs : List Row) (told : Told m ws cs) where
   abbrev day : ℕ → ℕ
   day j = (get_or cs j no_row).first
 
@@ -94,7 +90,7 @@ module _ (m : Measure) (ws cs : List Row) (told : Told m ws cs) where
   -- ---- the stretches
 
   module _ (group : Row) (by : List ℕ) (w : Row) (f : From group by cs w) where
-    pub stretch_says : (d : ℕ) → Holds (bare w) d → SomeHolds ws d × (w.values ≡ tuple_by group by (amount m (held ws d)))
+    pub stretch_says : (d : ℕ) → Holds (bare w) d → HeldIn ws d × (w.values ≡ tuple_by group by (amount m (held ws d)))
     stretch_says d h =
         let s = says f.j f.within f.ahead in
         let low : day f.j ≤ d = omega (arith, ap (λ r. r.first) f.is, h.0) in
@@ -127,16 +123,16 @@ module _ (m : Measure) (ws cs : List Row) (told : Told m ws cs) where
     abbrev out : List Row
     out = stretches_by group by cs
 
-    listed_holds : (w : Row) → Holds (bare w) d → (i : ℕ) × ((i < length out) × (get_or out i no_row ≡ w)) → SomeHolds out d
+    listed_holds : (w : Row) → Holds (bare w) d → (i : ℕ) × ((i < length out) × (get_or out i no_row ≡ w)) → HeldIn out d
     listed_holds w h s = (s.0, (s.1.0, subst (λ u. Holds (bare u) d) (sym s.1.1) h))
 
-    covered : (j : ℕ) → suc j < length cs → day j ≤ d → d < day (suc j) → some? (held ws d) ≡ true → SomeHolds out d
+    covered : (j : ℕ) → suc j < length cs → day j ≤ d → d < day (suc j) → some? (held ws d) ≡ true → HeldIn out d
     covered j within low high some =
         let ahead : day j < day (suc j) = omega arith in
         let told_some : lt_z (pos 0) (value 0 (get_or cs j no_row)) ≡ true = (says j within ahead).rows ∙ ap some? (sym (constant j d within low high)) ∙ some in
         listed_holds (stretch_by group by (get_or cs j no_row) (get_or cs (suc j) no_row)) (low, high) (stretch_listed group by cs j within told_some ahead)
 
-    pub day_covered : SomeHolds ws d → SomeHolds out d
+    pub day_covered : HeldIn ws d → HeldIn out d
     day_covered h =
         let b = All-get_or (λ u. CutAt cs u.first) ws h.0 no_row h.1.0 told.begins in
         let e = All-get_or (λ u. CutAt cs u.end) ws h.0 no_row h.1.0 told.ends in

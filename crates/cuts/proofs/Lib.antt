@@ -1,5 +1,4 @@
 pub mod Lists
-pub mod Parts
 pub mod Sorting
 pub mod Writing
 pub mod Adding

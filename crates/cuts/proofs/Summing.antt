@@ -9,7 +9,7 @@ use Rattle.std.proofs.lemmas.Bool.{cases_lt, cond-true, cond-false, and_from, an
 use Rattle.relation.specs.declared.rows.Row.{Row}
 use Rattle.relation.specs.Rows.{holds}
 use Rattle.collect.specs.Areas.{no_row, bare}
-use Rattle.cuts.specs.declared.measures.Measure.{Measure}
+use Rattle.tallies.specs.declared.rules.Tally.{Tally}
 use Rattle.cuts.specs.Amounts.{value, held, total}
 use Rattle.cuts.specs.Cuts.{cut_row, opened, closed, cuts_of}
 use Rattle.cuts.specs.Days.{Rises, sorted}
@@ -82,7 +82,7 @@ front_is p cs j rises lt step =
 -- ---- over the rows
 
 -- p is what the cuts say of v
-module _ (m : Measure) (p v : Row → ℤ) (opens : (w : Row) → p (opened m w) ≡ v w) (closes : (w : Row) → p (closed m w) ≡ neg_ℤ (v w)) where
+module _ (m : Tally) (p v : Row → ℤ) (opens : (w : Row) → p (opened m w) ≡ v w) (closes : (w : Row) → p (closed m w) ≡ neg_ℤ (v w)) where
   one_row : (d : ℕ) (w : Row) (hs : List Row) (rest : ℤ) → w.first < w.end → rest ≡ total (map v hs) → upto d p (opened m w) +ℤ (upto d p (closed m w) +ℤ rest) ≡ total (map v (cond (holds (bare w) d) (w ∷ hs) hs))
   one_row d w hs rest h more = step (cases_lt d w.first) (cases_lt d w.end)
     where

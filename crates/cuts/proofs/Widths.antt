@@ -1,7 +1,6 @@
 -- In the columns from 1 on stand the first values of a tuple.
-use Rattle.std.proofs.Common.{◌≡◌, ℕ, zero, suc, ◌+◌, ◌-◌, ◌<◌, cond, ◌&&◌, ltb, List, [], ◌∷◌, ◌++◌, get_or, take, pos, sym, refl, ap, ◌∙◌, arith}
+use Rattle.std.proofs.Common.{◌≡◌, ℕ, zero, suc, ◌+◌, ◌-◌, ◌<◌, cond, ◌&&◌, ltb, List, [], ◌∷◌, ◌++◌, get_or, pos, sym, refl, ap, ◌∙◌, arith}
 use lib.Signed.{lt_z}
-use Rattle.std.specs.List.{between}
 use Rattle.std.proofs.lemmas.List.{ext_get_or}
 use Rattle.std.proofs.lemmas.List.FromFn.{length-map-range_with_len, get_or-map-range_with_len}
 use Rattle.relation.specs.declared.rows.Row.{Row}
@@ -10,12 +9,9 @@ use Rattle.relation.specs.Operations.{picked}
 use Rattle.relation.specs.Sets.{Tuple, column}
 use Rattle.relation.specs.Stored.{firsts}
 use Rattle.relation.proofs.Firsts.{length_firsts}
-use Rattle.collect.specs.Areas.{no_row}
-use Rattle.cuts.specs.declared.measures.Measure.{Measure}
-use Rattle.cuts.specs.Amounts.{value, held, amount}
-use Rattle.cuts.specs.Groups.{tuple_by, Gives, GivesBy}
-use Rattle.cuts.specs.Stretches.{stretch, stretch_by}
-use Rattle.cuts.specs.Widths.{first_columns, TuplesFirst, StretchesFirst}
+use Rattle.cuts.specs.Amounts.{value}
+use Rattle.cuts.specs.Stretches.{stretch_by}
+use Rattle.cuts.specs.Widths.{stretch, first_columns, TuplesFirst, StretchesFirst}
 
 first_at : {X : Type 0} (n i : ℕ) (xs : List X) (d : X) → i < n → get_or (firsts n xs d) i d ≡ get_or xs i d
 first_at zero i xs d lt = absurd (omega arith)
@@ -45,20 +41,3 @@ stretches_first group width [] = refl
 stretches_first group width (c ∷ []) = refl
 stretches_first group width (c ∷ next ∷ cs) = λ i.
     cond (lt_z (pos 0) (value 0 c) && ltb c.first next.first) (stretch_first group width c next i ∷ stretches_first group width (next ∷ cs) i) (stretches_first group width (next ∷ cs) i)
-
--- the columns as they stand in the code
-columns_are : (n : ℕ) → n < most_columns → take n (1 ∷ 2 ∷ 3 ∷ 4 ∷ 5 ∷ []) ≡ first_columns n
-columns_are zero lt = refl
-columns_are (suc zero) lt = refl
-columns_are (suc (suc zero)) lt = refl
-columns_are (suc (suc (suc zero))) lt = refl
-columns_are (suc (suc (suc (suc zero)))) lt = refl
-columns_are (suc (suc (suc (suc (suc zero))))) lt = refl
-columns_are (suc (suc (suc (suc (suc (suc n)))))) lt = absurd (omega arith)
-
-pub gives_first : (m : Measure) (n k : ℕ) (rows : List Row) (from upto d : ℕ) (w : Row) → n < most_columns → k ≡ n → GivesBy m (take k (1 ∷ 2 ∷ 3 ∷ 4 ∷ 5 ∷ [])) rows from upto d w → Gives m n rows from upto d w
-gives_first m n k rows from upto d w lt e g =
-    let group : Row = get_or rows from no_row in
-    let z = amount m (held (between from upto rows) d) in
-    let by : take k (1 ∷ 2 ∷ 3 ∷ 4 ∷ 5 ∷ []) ≡ first_columns n = ap (λ j. take j (1 ∷ 2 ∷ 3 ∷ 4 ∷ 5 ∷ [])) e ∙ columns_are n lt in
-    record { some = g.some; values = g.values ∙ ap (λ cs. tuple_by group cs z) by ∙ tuples_first group n z }

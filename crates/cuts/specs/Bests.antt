@@ -6,7 +6,7 @@ use Rattle.relation.specs.Rows.{holds}
 use Rattle.collect.specs.Areas.{bare}
 use Rattle.cuts.specs.declared.bests.Extreme.{Extreme}
 use Rattle.cuts.specs.declared.bests.Extreme.TheVariants.{Least, Greatest}
-use Rattle.cuts.specs.Amounts.{value}
+use Rattle.cuts.specs.Amounts.{value, valued}
 use Rattle.cuts.specs.Cuts.{cut_row}
 
 -- the one of two that is kept
@@ -22,6 +22,6 @@ kept_at e z c = cond (int_lt (pos 0) (value 0 c)) (cut_row c.first (pos 1) (bett
 abbrev pub kept_by_row : Extreme → ℤ → Row → Row → Row
 kept_by_row e z w c = cond (holds (bare w) c.first) (kept_at e z c) c
 
--- the same for each row in turn, with its value at an index
+-- the same for each row in turn, with its value in column x
 abbrev pub kept_by_rows : Extreme → ℕ → List Row → Row → Row
-kept_by_rows e i ws c = fold (λ b w. kept_by_row e (value i w) w b) c ws
+kept_by_rows e x ws c = fold (λ b w. kept_by_row e (valued x w) w b) c ws

@@ -1,4 +1,3 @@
-pub mod Areas
 pub mod Amounts
 pub mod Groups
 pub mod Days

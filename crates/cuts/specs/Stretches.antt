@@ -2,22 +2,13 @@
 use Rattle.std.specs.Prelude.{ℕ, cond, ◌&&◌, List, [], ◌∷◌, pos, int_lt, nat_lt}
 use Rattle.relation.specs.declared.rows.Row.{Row}
 use Rattle.cuts.specs.Amounts.{value}
-use Rattle.cuts.specs.Groups.{tuple_of, tuple_by}
+use Rattle.cuts.specs.Groups.{tuple_by}
 
 -- from one cut to the next
-abbrev pub stretch : Row → ℕ → Row → Row → Row
-stretch group width c next = record { first = c.first; end = next.first; values = tuple_of group width (value 1 c) }
-
--- the stretches that have a day and that some row holds
-abbrev pub stretches_of : Row → ℕ → List Row → List Row
-stretches_of group width [] = []
-stretches_of group width (c ∷ []) = []
-stretches_of group width (c ∷ next ∷ cs) = cond (int_lt (pos 0) (value 0 c) && nat_lt c.first next.first) (stretch group width c next ∷ stretches_of group width (next ∷ cs)) (stretches_of group width (next ∷ cs))
-
--- both where the group's values are those in the columns `by`
 abbrev pub stretch_by : Row → List ℕ → Row → Row → Row
 stretch_by group by c next = record { first = c.first; end = next.first; values = tuple_by group by (value 1 c) }
 
+-- the stretches that have a day and that some row holds
 abbrev pub stretches_by : Row → List ℕ → List Row → List Row
 stretches_by group by [] = []
 stretches_by group by (c ∷ []) = []

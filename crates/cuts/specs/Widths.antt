@@ -1,9 +1,26 @@
 -- A group by its first few values is one by the columns from 1 on.
-use Rattle.std.specs.Prelude.{◌≡◌, ℕ, List, ℤ}
+use Rattle.std.specs.Prelude.{◌≡◌, ℕ, cond, ◌&&◌, List, [], ◌∷◌, ◌++◌, ℤ, pos, int_lt, nat_lt}
 use Rattle.std.specs.List.{range_with_len}
 use Rattle.relation.specs.declared.rows.Row.{Row}
-use Rattle.cuts.specs.Groups.{tuple_of, tuple_by}
-use Rattle.cuts.specs.Stretches.{stretches_of, stretches_by}
+use Rattle.relation.specs.Bounds.{most_columns}
+use Rattle.relation.specs.Stored.{firsts}
+use Rattle.cuts.specs.Amounts.{value}
+use Rattle.cuts.specs.Groups.{tuple_by}
+use Rattle.cuts.specs.Stretches.{stretches_by}
+
+-- the first few values of the group's row, then the amount
+abbrev pub tuple_of : Row → ℕ → ℤ → List ℤ
+tuple_of group width amount = firsts most_columns (firsts width group.values (pos 0) ++ (amount ∷ [])) (pos 0)
+
+-- from one cut to the next, with these values
+abbrev pub stretch : Row → ℕ → Row → Row → Row
+stretch group width c next = record { first = c.first; end = next.first; values = tuple_of group width (value 1 c) }
+
+-- the stretches that have a day and that some row holds
+abbrev pub stretches_of : Row → ℕ → List Row → List Row
+stretches_of group width [] = []
+stretches_of group width (c ∷ []) = []
+stretches_of group width (c ∷ next ∷ cs) = cond (int_lt (pos 0) (value 0 c) && nat_lt c.first next.first) (stretch group width c next ∷ stretches_of group width (next ∷ cs)) (stretches_of group width (next ∷ cs))
 
 -- the columns from 1 to the width
 abbrev pub first_columns : ℕ → List ℕ

@@ -15,10 +15,9 @@ pub fn add_up(cuts: &mut [Row])
 {
     let mut rows = 0;
     let mut amount = 0;
-    for i in 0..cuts.len() {
-        let change = cuts[i];
+    for change in cuts {
         rows += change.values[0];
         amount += change.values[1];
-        cuts[i] = cut(change.first, rows, amount);
+        *change = cut(change.first, rows, amount);
     }
 }

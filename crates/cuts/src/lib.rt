@@ -6,7 +6,6 @@ mod bests;
 mod cuts;
 mod days;
 pub mod groups;
-pub mod measures;
 pub mod picks;
 mod stretches;
 pub mod theorems;

@@ -8,7 +8,7 @@ ghost use Rattle.relation.specs.Stored.{firsts};
 use relation::bounds::MOST_COLUMNS;
 
 // The value of column c, which counts from 1, and 0 past the last; column 0 is read as the first.
-fn value_of(values: &[i64; 6], c: usize) -> i64
+pub fn value_of(values: &[i64; 6], c: usize) -> i64
     ensures { result ≡ column c values.now }
 {
     let at = c.saturating_sub(1);

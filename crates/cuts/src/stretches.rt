@@ -19,7 +19,7 @@ fn tuple_by(group: &Row, by: &[usize], amount: i64) -> [i64; 6]
 
 // Writes a row for each stretch between two neighbouring cuts that some row holds, in rising order, to the start of the cuts;
 // answers how many.
-pub fn emit_by(cuts: &mut [Row], group: &Row, by: &[usize]) -> usize
+pub fn emit(cuts: &mut [Row], group: &Row, by: &[usize]) -> usize
     requires { length by.now < most_columns }
     ensures few { result ≤ length cuts.old }
     ensures stretches { take result cuts.new ≡ stretches_by group.now by.now cuts.old }

@@ -7,7 +7,7 @@ ghost use Rattle.depth.specs.Heights.{height};
 
 use std::alloc::{AllocError, Global};
 use std::{fmt, io};
-use tree::{Keys, Node};
+use tree::{Keys, Node, Tree};
 
 const COUNT: u32 = 65_536;
 
@@ -62,11 +62,7 @@ impl Keys for Days<'_> {
 fn arrive(heap: Global, arrival: Arrival) -> Result<Vec<u32>, AllocError>
     ensures { IfOk result (λ v. vec_len v ≡ 65536) }
 {
-    let mut days = Vec::new(heap);
-    for i in 0..COUNT {
-        days.push(arrival.day(i))?;
-    }
-    Ok(days)
+    (0..COUNT).map(|i| arrival.day(i)).collect(heap)
 }
 
 // How many nodes stand on the longest way down from a link.
@@ -85,13 +81,14 @@ fn depth(nodes: &[Node], link: u32) -> u32
 }
 
 // The depth of the tree over the nodes once all days have come.
+#[tactic(auto, using(crate::proofs::Heights::height_size))]
 fn measure(nodes: &mut [Node], days: &[u32]) -> u32
     requires room { length days.now ≤ length nodes.old }
     requires few { length nodes.old < 2 ^ 32 }
     ensures { result ≤ length days.now }
 {
     let keys = Days { days };
-    let root = tree::fill(nodes, &keys, days.len() as u32);
+    let root = Tree::fill(nodes, &keys, days.len() as u32).root;
     depth(nodes, root)
 }
 

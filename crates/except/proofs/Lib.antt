@@ -1,6 +1,5 @@
 pub mod Tupled
 pub mod Scanned
-pub mod Alike
 pub mod Pieces
 pub mod Rowed
 pub mod FreeDays

@@ -16,7 +16,7 @@ use Rattle.except.proofs.Scanned.{no_blocker}
 use Rattle.except.proofs.Pieces.{candidate_next}
 
 -- the places of the right source that a seek by the tuple of a left row passes over give that row no piece
-pub no_pieces : (a b : Meaning) (sa : Sound a) (i columns p r : ℕ) (w : Row) → columns ≡ length a.kinds → row? (a.at i) ≡ Some w → p ≤ b.count → NoneLed b (take (columns - 0) w.values) p r → NoPieces b (a.at i) p r
+pub no_pieces : (a b : Meaning) (sa : Sound a) (i columns p r : ℕ) (w : Row) → columns ≡ length a.kinds → row? (a.at i) ≡ Some w → p ≤ b.count → NoneLed b (take columns w.values) p r → NoPieces b (a.at i) p r
 no_pieces a b sa i columns p r w wide e low led = record { on = led.on; up = omega (arith, led.up); skipped = λ q pq qr. at (a.at i) refl e q pq qr }
   where
     at : (o : Option SpecRow) → a.at i ≡ o → row? o ≡ Some w → (q : ℕ) → p ≤ q → q < r → pieced b o (q + 1) ≡ None
@@ -24,7 +24,7 @@ no_pieces a b sa i columns p r w wide e low led = record { on = led.on; up = ome
     at (Some v) f g q pq qr =
         let is : w ≡ stored v = cc in
         let size : length v.tuple ≡ columns = fits_length a.kinds v.tuple (sa.filled i v f).fitting ∙ sym wide in
-        let tuple : take (columns - 0) w.values ≡ v.tuple = ap (λ (x : Row). take (columns - 0) x.values) is ∙ tuple_of v columns size (omega (arith, sa.few_kinds)) in
+        let tuple : take columns w.values ≡ v.tuple = ap (λ (x : Row). take columns x.values) is ∙ tuple_of v columns size (omega (arith, sa.few_kinds)) in
         let none = no_blocker b v.tuple p r q (subst (λ t. NoneLed b t p r) tuple led) pq qr in
         ap (λ c. dated v.tuple (piece_from b v.tuple (span v) (q + 1) c)) (candidate_next b v.tuple (span v) q ∙ ap (within (span v)) none)
 
@@ -45,12 +45,9 @@ module _ (a b : Meaning) (lead : Tuple) where
       let same = ap (pieced b (a.at i)) back in
       let z : ◌≡◌ {A = ℕ} 0 1 = cc in omega arith
 
-  -- ---- from place k, which is piece j of the left row at place i, where a left row has n + 1 places
+  -- ---- from place k, which is piece j of the left row at place i, where a left row has w places
 
-  module _ (k n : ℕ) (places : n ≡ b.count) where
-    abbrev w : ℕ
-    w = n + 1
-
+  module _ (k w : ℕ) (places : w ≡ b.count + 1) where
     some : 0 < w
     some = omega arith
 
@@ -60,11 +57,11 @@ module _ (a b : Meaning) (lead : Tuple) where
     -- a way to say it by left places and pieces
     led_from : (r : ℕ) → k ≤ r → r ≤ a.count * w → ((q : ℕ) → k ≤ q → q < r → Unled (q / w) (q % w)) → NoneLed (excepted a b) lead k r
     led_from r on up each =
-        let all : a.count * w ≡ a.count * (b.count + 1) = ap (λ m. a.count * (m + 1)) places in
+        let all : a.count * w ≡ a.count * (b.count + 1) = ap (λ m. a.count * m) places in
         record {
           on = on;
           up = omega (arith, all);
-          skipped = λ q v kq qr at. each q kq qr v (ap (λ m. pieced b (a.at (q / (m + 1))) (q % (m + 1))) places ∙ at);
+          skipped = λ q v kq qr at. each q kq qr v (ap (λ m. pieced b (a.at (q / m)) (q % m)) places ∙ at);
         }
 
     left_of : (q : ℕ) → k ≤ q → k / w ≤ q / w
@@ -89,7 +86,7 @@ module _ (a b : Meaning) (lead : Tuple) where
           subst (λ i. Unled i (q % w)) (sym e) (unled_piece (k / w) (k % w - 1) p none (q % w) (omega (arith, piece_of q e, div-add-mod' k w)) hi)
 
       -- to the next blocker's piece of the same left row
-      pub to_piece : p < n → NoneLed (excepted a b) lead k (k / w * w + p + 1)
+      pub to_piece : p < b.count → NoneLed (excepted a b) lead k (k / w * w + p + 1)
       to_piece lt = led_from (k / w * w + p + 1) (omega (arith, div-add-mod' k w, none.on)) (omega (arith, add-mul (k / w) 1 w, mul-le-mul_right w few))
           (λ q kq qr.
           let below : q / w < k / w + 1 = div_below q w (k / w + 1) some (omega (arith, add-mul (k / w) 1 w)) in
@@ -97,7 +94,7 @@ module _ (a b : Meaning) (lead : Tuple) where
           within_row q kq same (omega (arith, piece_of q same)))
 
       -- to the next left row
-      pub to_next : n ≤ p → (r : ℕ) → NoneLed a lead (k / w + 1) r → NoneLed (excepted a b) lead k (r * w)
+      pub to_next : b.count ≤ p → (r : ℕ) → NoneLed a lead (k / w + 1) r → NoneLed (excepted a b) lead k (r * w)
       to_next all r led = led_from (r * w) (omega (arith, before, mul-le-mul_right w led.on)) (mul-le-mul_right w (omega (arith, led.up)))
           (λ q kq qr. ⊎_elim
           (λ lt. unled_row (k / w + 1) r led (q / w) (q % w) (omega arith) (div_below q w r some qr))

@@ -1,11 +1,9 @@
 -- Except: what is left of each row of a once the days of its blockers in b are taken out.
-use Rattle.std.specs.Prelude.{◌≡◌, ℕ, ◌+◌, ◌*◌, ◌/◌, ◌%◌, ◌<◌, ◌≤◌, cond, not, Some, None, Option, nat_le}
+use Rattle.std.specs.Prelude.{◌≡◌, ℕ, ◌+◌, ◌*◌, ◌/◌, ◌%◌, ◌<◌, ◌≤◌, Some, None, Option}
 use Rattle.relation.specs.declared.refusals.Reason.{Reason}
-use Rattle.relation.specs.declared.refusals.Reason.TheVariants.{Misfit, TooManyPlaces}
-use Rattle.relation.specs.Bounds.{most_places}
 use Rattle.relation.specs.Sets.{Tuple}
 use Rattle.relation.specs.Rows.{SpecRow}
-use Rattle.layers.specs.Alike.{same_kinds}
+use Rattle.layers.specs.Checks.{no_pair}
 use Rattle.source.specs.Meaning.{Meaning}
 use Rattle.except.specs.declared.blockers.Span.{Span}
 use Rattle.except.specs.Blockers.{span, piece}
@@ -38,13 +36,4 @@ pub record NoPieces (b : Meaning) (o : Option SpecRow) (p r : ℕ) : Type 0 wher
 
 -- the reason why a except b is not made, the first that applies
 abbrev pub no_except : Meaning → Meaning → Option Reason
-no_except a b =
-    cond (not (same_kinds a.kinds b.kinds)) (Some Misfit)
-    (cond (not (nat_le (a.count * (b.count + 1)) most_places)) (Some TooManyPlaces) None)
-
--- an except that was made: its sources were accepted (P and Q), and it was not refused
-pub record Accepted (P Q : Type 0) (a b : Meaning) : Type 0 where
-  pub left : P
-  pub right : Q
-  pub same : a.kinds ≡ b.kinds
-  pub few : a.count * (b.count + 1) ≤ most_places
+no_except a b = no_pair a b (a.count * (b.count + 1))

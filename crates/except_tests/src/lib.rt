@@ -2,10 +2,10 @@
 #![tactic(auto)]
 
 use except::excepts::Except;
-use relation::columns::Kinds;
+use relation::kinds::Kind;
 use relation::refusals::Refusal;
 use relation::rows::Row;
-use source::asks::Source;
+use source::filled::Filled;
 use source::tables::Table;
 
 // Writes the rows of the left table except the right one, in the order of the places, as far as there is room.
@@ -13,25 +13,18 @@ use source::tables::Table;
 pub fn write_except(
     left: &[Row],
     right: &[Row],
-    left_kinds: Kinds,
-    right_kinds: Kinds,
+    left_kinds: &[Kind],
+    right_kinds: &[Kind],
     out: &mut [Row],
 ) -> Result<usize, Refusal> {
     let source = Except::new(
         Table::open(left, left_kinds)?,
         Table::open(right, right_kinds)?,
     )?;
-    let n = source.places();
     let mut count = 0;
-    let mut k = source.seek(0, &[]);
-    while k < n {
-        if let Some(row) = source.row(k) {
-            if count < out.len() {
-                out[count] = row;
-                count += 1;
-            }
-        }
-        k = source.seek(k + 1, &[]);
+    for (slot, row) in out.iter_mut().zip(Filled::new(&source)) {
+        *slot = row;
+        count += 1;
     }
     Ok(count)
 }
@@ -39,17 +32,9 @@ pub fn write_except(
 #[cfg(test)]
 mod tests {
     use super::*;
-    use relation::kinds::Kind;
     use relation::refusals::Reason;
     use std::process::Abort;
     use std::test::Fail;
-
-    fn one(kind: Kind) -> Kinds {
-        Kinds {
-            count: 1,
-            at: [kind; 6],
-        }
-    }
 
     fn row(first: u32, end: u32, value: i64) -> Row {
         Row {
@@ -59,19 +44,13 @@ mod tests {
         }
     }
 
-    fn same(rt: &impl Abort, got: &Row, want: &Row) {
-        assert_eq!(rt; got.first, want.first);
-        assert_eq!(rt; got.end, want.end);
-        assert_eq!(rt; got.values[0], want.values[0]);
-    }
-
     // Checks that the left rows except the right ones are the rows `want`, one column of numbers each.
     fn leaves(rt: &impl Abort, left: &[Row], right: &[Row], want: &[Row]) -> Result<(), Fail> {
         let mut out = [Row::blank(); 8];
-        let count = write_except(left, right, one(Kind::Number), one(Kind::Number), &mut out)?;
+        let count = write_except(left, right, &[Kind::Number], &[Kind::Number], &mut out)?;
         assert_eq!(rt; count, want.len());
         for (got, want) in out.iter().zip(want) {
-            same(rt, got, want);
+            assert_eq!(rt; got, want);
         }
         Ok(())
     }
@@ -110,7 +89,7 @@ mod tests {
     #[test]
     fn wants_equal_kinds(rt: HostRuntime) -> Result<(), Fail> {
         let mut out = [Row::blank(); 1];
-        match write_except(&[], &[], one(Kind::Number), one(Kind::Word), &mut out) {
+        match write_except(&[], &[], &[Kind::Number], &[Kind::Word], &mut out) {
             Ok(_) => Err(Fail::new("made of different kinds")),
             Err(refusal) => {
                 assert_eq!(rt; refusal.reason, Reason::Misfit);

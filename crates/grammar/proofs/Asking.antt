@@ -11,7 +11,7 @@ use Rattle.grammar.specs.declared.keywords.Verb.{Verb}
 use Rattle.grammar.specs.declared.keywords.Verb.TheVariants.{Select, Project, Union, Except, Join, Count, Sum, Min, Max}
 use Rattle.grammar.specs.Meaning.{Operand, Query, select, project, union, except, join, tally}
 use Rattle.grammar.specs.Said.{columns_in, pairs_in}
-use Rattle.grammar.specs.Grammar.{take_reserved, operand, take_term, all_columns, all_pairs, filled, take_pairs, take_groups, Measured, measured, query_of}
+use Rattle.grammar.specs.Grammar.{take_reserved, operand, take_term, all_columns, all_pairs, filled, take_pairs, take_groups, Measured, measured, both, query_of}
 use Rattle.grammar.specs.Language.{Each, EachPair, WritesOperand, Optional, WritesGroups, WritesOf, WritesTally, WritesQuery}
 use Rattle.grammar.proofs.Tailing.{reserved_read, columns_read, columns_are, columns_some, pairs_read, pairs_are, pairs_some, filled_read, filled_take, optional_read, optional_take}
 use Rattle.grammar.proofs.Parting.{spelled_verb, operand_read, operand_take, not_during, term_read, term_take}
@@ -66,11 +66,15 @@ tallied_read v ws q make told e =
     let r = measured_read ws m.0 m.1 in
     subst (WritesQuery v ws) (same_some _ _ m.2) (r.0, r.1, r.2, r.3, r.4, told r.1 m.0.column r.5, r.6)
 
-two_read : (ws : List Text) (a b : Operand × List Text) (u : Unit {0}) → operand ws ≡ Some a → operand a.1 ≡ Some b → nothing b.1 ≡ Some u → (xs : List Text) × (ys : List Text) × (ws ≡ xs ++ ys) × WritesOperand xs a.0 × WritesOperand ys b.0
-two_read ws a b u e f n =
-    let x = operand_read ws a e in
-    let y = operand_read a.1 b f in
-    (x.0, y.0, x.1 ∙ ap (λ l. x.0 ++ l) (y.1 ∙ ap (λ l. y.0 ++ l) (nothing_read b.1 u n) ∙ append-nil y.0), x.2, y.2)
+both_read : (ws : List Text) (r : Operand × Operand) → both ws ≡ Some r → (xs : List Text) × (ys : List Text) × (ws ≡ xs ++ ys) × WritesOperand xs r.0 × WritesOperand ys r.1
+both_read ws r e =
+    let a = then_some (operand ws) _ r e in
+    let b = then_some (operand a.0.1) _ r a.2 in
+    let n = then_some (nothing b.0.1) _ r b.2 in
+    let x = operand_read ws a.0 a.1 in
+    let y = operand_read a.0.1 b.0 b.1 in
+    let P : Operand × Operand → Type 0 = λ r. (xs : List Text) × (ys : List Text) × (ws ≡ xs ++ ys) × WritesOperand xs r.0 × WritesOperand ys r.1 in
+    subst P (same_some _ _ n.2) (x.0, y.0, x.1 ∙ ap (λ l. x.0 ++ l) (y.1 ∙ ap (λ l. y.0 ++ l) (nothing_read b.0.1 n.0 n.1) ∙ append-nil y.0), x.2, y.2)
 
 -- four words after an operand, and nothing after them
 lined_up : (ws xs l₀ l₁ l₂ l₃ l₄ : List Text) (a b c d : Text) → ws ≡ xs ++ l₀ → l₀ ≡ a ∷ l₁ → l₁ ≡ b ∷ l₂ → l₂ ≡ c ∷ l₃ → l₃ ≡ d ∷ l₄ → l₄ ≡ [] → ws ≡ xs ++ a ∷ b ∷ c ∷ d ∷ []
@@ -101,16 +105,8 @@ query_read v Project ws q s e =
     let y = reserved_read reserved.On a.0.1 o.0 o.1 in
     let f = columns_after o.0 c.0 c.1 in
     subst (WritesQuery v ws) (same_some _ _ c.2) (s, (x.0, c.0, x.1 ∙ ap (λ l. x.0 ++ l) (y ∙ ap (λ l. codes "on" ∷ l) f.0), x.2, f.1, f.2))
-query_read v Union ws q s e =
-    let a = then_some (operand ws) _ q e in
-    let b = then_some (operand a.0.1) _ q a.2 in
-    let n = then_some (nothing b.0.1) _ q b.2 in
-    subst (WritesQuery v ws) (same_some _ _ n.2) (s, two_read ws a.0 b.0 n.0 a.1 b.1 n.1)
-query_read v Except ws q s e =
-    let a = then_some (operand ws) _ q e in
-    let b = then_some (operand a.0.1) _ q a.2 in
-    let n = then_some (nothing b.0.1) _ q b.2 in
-    subst (WritesQuery v ws) (same_some _ _ n.2) (s, two_read ws a.0 b.0 n.0 a.1 b.1 n.1)
+query_read v Union ws q s e = let p = then_some (both ws) (λ p. Some (union p.0 p.1)) q e in subst (WritesQuery v ws) (same_some _ _ p.2) (s, both_read ws p.0 p.1)
+query_read v Except ws q s e = let p = then_some (both ws) (λ p. Some (except p.0 p.1)) q e in subst (WritesQuery v ws) (same_some _ _ p.2) (s, both_read ws p.0 p.1)
 query_read v Join ws q s e =
     let a = then_some (operand ws) _ q e in
     let b = then_some (operand a.0.1) _ q a.2 in
@@ -129,11 +125,10 @@ query_read v Max ws q s e = tallied_read v ws q tallying.Max (λ ts c h. (s, h))
 
 -- ---- what is written there, the reader finds
 
-two_take : (ws xs ys : List Text) (a b : Operand) → ws ≡ xs ++ ys → WritesOperand xs a → WritesOperand ys b → (operand ws ≡ Some (a, ys)) × (operand ys ≡ Some (b, []))
-two_take ws xs ys a b e x y = (
-  ap operand e ∙ operand_take xs a ys x (ap (take_reserved reserved.During) (sym (append-nil ys)) ∙ not_during ys b [] y),
-  ap operand (sym (append-nil ys)) ∙ operand_take ys b [] y refl,
-)
+both_take : (ws xs ys : List Text) (a b : Operand) → ws ≡ xs ++ ys → WritesOperand xs a → WritesOperand ys b → both ws ≡ Some (a, b)
+both_take ws xs ys a b e x y =
+    then_is (operand ws) (λ a. operand a.1 then (λ b. nothing b.1 then (λ _. Some (a.0, b.0)))) (a, ys) (ap operand e ∙ operand_take xs a ys x (ap (take_reserved reserved.During) (sym (append-nil ys)) ∙ not_during ys b [] y))
+    ∙ then_is (operand ys) (λ b. nothing b.1 then (λ _. Some (a, b.0))) (b, []) (ap operand (sym (append-nil ys)) ∙ operand_take ys b [] y refl)
 
 measured_take : (ws xs ts us : List Text) (a : Operand) (c : ℕ) (cs : List ℕ) → ws ≡ xs ++ (ts ++ us) → WritesOperand xs a → WritesOf ts c → WritesGroups us cs → (m : Measured) × (measured ws ≡ Some m) × (m.operand ≡ a) × (m.column ≡ c) × (columns_in m.groups ≡ cs)
 measured_take ws xs ts us a c cs e x t g =
@@ -196,16 +191,8 @@ query_take v ws (project a cs) g =
     ∙ then_is (operand (h.0 ++ codes "on" ∷ h.1)) (λ a. take_reserved reserved.On a.1 then (λ on. filled all_columns on then (λ cs. Some (project a.0 (columns_in cs))))) (a, codes "on" ∷ h.1) (operand_take h.0 a (codes "on" ∷ h.1) h.3 refl)
     ∙ then_is (filled all_columns h.1) (λ cs. Some (project a (columns_in cs))) h.1 f.0
     ∙ ap (λ l. Some (project a l)) f.1
-query_take v ws (union a b) g =
-    let h = g.1 in
-    let t = two_take ws h.0 h.1 a b h.2 h.3 h.4 in
-    then_is (operand ws) (λ a. operand a.1 then (λ b. nothing b.1 then (λ _. Some (union a.0 b.0)))) (a, h.1) t.0
-    ∙ then_is (operand h.1) (λ b. nothing b.1 then (λ _. Some (union a b.0))) (b, []) t.1
-query_take v ws (except a b) g =
-    let h = g.1 in
-    let t = two_take ws h.0 h.1 a b h.2 h.3 h.4 in
-    then_is (operand ws) (λ a. operand a.1 then (λ b. nothing b.1 then (λ _. Some (except a.0 b.0)))) (a, h.1) t.0
-    ∙ then_is (operand h.1) (λ b. nothing b.1 then (λ _. Some (except a b.0))) (b, []) t.1
+query_take v ws (union a b) g = let h = g.1 in then_is (both ws) (λ p. Some (union p.0 p.1)) (a, b) (both_take ws h.0 h.1 a b h.2 h.3 h.4)
+query_take v ws (except a b) g = let h = g.1 in then_is (both ws) (λ p. Some (except p.0 p.1)) (a, b) (both_take ws h.0 h.1 a b h.2 h.3 h.4)
 query_take v ws (join a b ps) g =
     let h = g.1 in
     let p = joined_take h.2 ps h.6 in

@@ -25,7 +25,8 @@ use Rattle.grammar.specs.declared.keywords.Keyword.{Keyword}
 use Rattle.grammar.specs.declared.keywords.Keyword.TheVariants.{Load, Row, End, Drop, Show, Query}
 use Rattle.grammar.specs.Keywords.{keywords, keyword}
 use Rattle.grammar.specs.Meaning.{Operand, whole, part}
-use Rattle.grammar.specs.Grammar.{take_reserved, windowed, operand, term_in, take_term}
+use Rattle.grammar.specs.Said.{windowed}
+use Rattle.grammar.specs.Grammar.{take_reserved, window_after, window, operand, term_in, take_term}
 use Rattle.grammar.specs.Language.{WritesOperand, WritesTerm}
 use Rattle.grammar.proofs.Listed.{reserved_is}
 use Rattle.grammar.proofs.Tailing.{reserved_read}
@@ -79,14 +80,15 @@ name_unreserved w r e =
 
 -- ---- operands
 
-windowed_read : (a : Text) (ws : List Text) (o : Option (List Text)) → take_reserved During ws ≡ o → Name a → (r : Operand × List Text) → windowed a ws o ≡ Some r → (xs : List Text) × (a ∷ ws ≡ xs ++ r.1) × WritesOperand xs r.0
-windowed_read a ws None d n r e =
+window_read : (a : Text) (ws : List Text) (o : Option (List Text)) → take_reserved During ws ≡ o → Name a → (r : Operand × List Text) → (window_after ws o then (λ d. Some (windowed a d.0, d.1))) ≡ Some r → (xs : List Text) × (a ∷ ws ≡ xs ++ r.1) × WritesOperand xs r.0
+window_read a ws None d n r e =
     let p : ◌≡◌ {A = Operand × List Text} (whole a, ws) r = same_some _ _ e in
     (a ∷ [], (λ i. a ∷ (p i).1), subst (λ q. WritesOperand (a ∷ []) q.0) p (refl, n))
-windowed_read a ws (Some on) d n r e =
-    let f = then_some (take_number on) _ r e in
-    let u = then_some (take_number f.0.1) _ r f.2 in
-    let p : ◌≡◌ {A = Operand × List Text} (part a f.0.0 u.0.0, u.0.1) r = same_some _ _ u.2 in
+window_read a ws (Some on) d n r e =
+    let t = then_some (window_after ws (Some on)) (λ d. Some (windowed a d.0, d.1)) r e in
+    let f = then_some (take_number on) _ t.0 t.1 in
+    let u = then_some (take_number f.0.1) _ t.0 f.2 in
+    let p : ◌≡◌ {A = Operand × List Text} (part a f.0.0 u.0.0, u.0.1) r = ap (λ d. (windowed a d.0, d.1)) (same_some _ _ u.2) ∙ same_some _ _ t.2 in
     let x = number_read on f.0 f.1 in
     let y = number_read f.0.1 u.0 u.1 in
     let xs : List Text = a ∷ codes "during" ∷ x.0 ∷ y.0 ∷ [] in (
@@ -99,21 +101,24 @@ pub operand_read : (ws : List Text) (r : Operand × List Text) → operand ws �
 operand_read ws r e =
     let a = then_some (take_name ws) _ r e in
     let n = name_read ws a.0 a.1 in
-    let w = windowed_read a.0.0 a.0.1 (take_reserved During a.0.1) refl n.1 r a.2 in
+    let w = window_read a.0.0 a.0.1 (take_reserved During a.0.1) refl n.1 r a.2 in
     (w.0, n.0 ∙ w.1, w.2)
 
 pub operand_take : (xs : List Text) (a : Operand) (on : List Text) → WritesOperand xs a → take_reserved During on ≡ None → operand (xs ++ on) ≡ Some (a, on)
 operand_take xs (whole a) on h d =
     ap (λ l. operand (l ++ on)) h.0
-    ∙ then_is (take_name (a ∷ on)) (λ a. windowed a.0 a.1 (take_reserved During a.1)) (a, on) (name_take a on h.1)
-    ∙ ap (windowed a on) d
+    ∙ then_is (take_name (a ∷ on)) (λ a. window a.1 then (λ d. Some (windowed a.0 d.0, d.1))) (a, on) (name_take a on h.1)
+    ∙ ap (λ o. window_after on o then (λ d. Some (windowed a d.0, d.1))) d
 operand_take xs (part a f u) on h d =
     let x = h.0 in
     let y = h.1 in
+    let told : (take_number (x ∷ y ∷ on) then (λ f. take_number f.1 then (λ u. Some (Some (f.0, u.0), u.1)))) ≡ Some (Some (f, u), on) =
+    then_is (take_number (x ∷ y ∷ on)) (λ f. take_number f.1 then (λ u. Some (Some (f.0, u.0), u.1))) (f, y ∷ on) (number_take x f (y ∷ on) h.4)
+    ∙ then_is (take_number (y ∷ on)) (λ u. Some (Some (f, u.0), u.1)) (u, on) (number_take y u on h.5)
+    in
     ap (λ l. operand (l ++ on)) h.2
-    ∙ then_is (take_name (a ∷ codes "during" ∷ x ∷ y ∷ on)) (λ a. windowed a.0 a.1 (take_reserved During a.1)) (a, codes "during" ∷ x ∷ y ∷ on) (name_take a (codes "during" ∷ x ∷ y ∷ on) h.3)
-    ∙ then_is (take_number (x ∷ y ∷ on)) (λ f. take_number f.1 then (λ u. Some (part a f.0 u.0, u.1))) (f, y ∷ on) (number_take x f (y ∷ on) h.4)
-    ∙ then_is (take_number (y ∷ on)) (λ u. Some (part a f u.0, u.1)) (u, on) (number_take y u on h.5)
+    ∙ then_is (take_name (a ∷ codes "during" ∷ x ∷ y ∷ on)) (λ a. window a.1 then (λ d. Some (windowed a.0 d.0, d.1))) (a, codes "during" ∷ x ∷ y ∷ on) (name_take a (codes "during" ∷ x ∷ y ∷ on) h.3)
+    ∙ ap (λ o. o then (λ d. Some (windowed a d.0, d.1))) told
 
 -- an operand does not begin with `during`
 pub not_during : (ys : List Text) (b : Operand) (on : List Text) → WritesOperand ys b → take_reserved During (ys ++ on) ≡ None

@@ -2,14 +2,10 @@
 use Rattle.std.proofs.Common.{◌≡◌, ◌≤◌, true, cond, ◌&&◌, leb, List, [], ◌∷◌, length, Some, None, codes, Option, sym, refl, ap, ◌∙◌, subst, inl, inr, ⊎_elim, arith}
 use Rattle.std.proofs.lemmas.Bool.{cond-true, cond-false, cases_Bool, eqb-true, and_parts, and_from, leb-true, le-leb, true≢false}
 use Rattle.relation.specs.declared.kinds.Kind.{Kind}
-use Rattle.relation.specs.declared.kinds.Kind.TheVariants.{Number}
-use Rattle.relation.specs.declared.columns.Kinds.{Kinds}
 use Rattle.relation.specs.Bounds.{most_columns}
-use Rattle.relation.specs.Stored.{listed}
-use Rattle.relation.proofs.Firsts.{firsts_cut, firsts_all}
-use Rattle.words.specs.Kinds.{kept, kinds_of}
+use Rattle.words.specs.Kinds.{kinds_of}
 use Rattle.takers.specs.Take.{Text, ◌then◌, take_name, take_number, take_equals, take_kinds, nothing, all_values, RowText, take_row, is_blank}
-use Rattle.takers.specs.Writing.{WritesKinds, WritesValue}
+use Rattle.takers.specs.Writing.{Name, WritesKinds, WritesValue}
 use Rattle.takers.proofs.Options.{same_some, absent, then_some, cond_some, then_is}
 use Rattle.takers.proofs.Taking.{name_read, name_take, number_read, number_take, equals_read, equals_take, kinds_of_lem, kinds_is, nothing_read}
 use Rattle.grammar.specs.declared.keywords.Verb.{Verb}
@@ -19,7 +15,7 @@ use Rattle.grammar.specs.declared.keywords.Keyword.TheVariants.{Load, Row, End, 
 use Rattle.grammar.specs.Keywords.{keyword}
 use Rattle.grammar.specs.Meaning.{Line, skip, load, row, end, drop, show, query}
 use Rattle.grammar.specs.Said.{values_in}
-use Rattle.grammar.specs.Grammar.{query_of, form, worded, line_of}
+use Rattle.grammar.specs.Grammar.{query_of, only_name, form, worded, line_of}
 use Rattle.grammar.specs.Language.{Writes, Reads, OneReading}
 use Rattle.grammar.proofs.Tailing.{values_read, values_are, each_length}
 use Rattle.grammar.proofs.Parting.{spelled_verb, spelled, keyword_spelled}
@@ -27,20 +23,16 @@ use Rattle.grammar.proofs.Asking.{verb_of, query_read, query_verb, query_take}
 
 -- ---- kinds
 
-listed_kept : (ks : List Kind) → length ks ≤ most_columns → listed (kept ks) ≡ ks
-listed_kept ks le = firsts_cut (length ks) most_columns ks Number le ∙ firsts_all ks Number
-
-kinds_read : (ws : List Text) (r : Kinds × List Text) → take_kinds ws ≡ Some r → (w : Text) × (ws ≡ w ∷ r.1) × WritesKinds w (listed r.0) × (length (listed r.0) ≤ most_columns)
+kinds_read : (ws : List Text) (r : List Kind × List Text) → take_kinds ws ≡ Some r → (w : Text) × (ws ≡ w ∷ r.1) × WritesKinds w r.0 × (length r.0 ≤ most_columns)
 kinds_read [] r e = absent r e
 kinds_read (w ∷ ws) r e =
     let h = then_some (kinds_of w) (λ ks. Some (ks, ws)) r e in
-    let p : ◌≡◌ {A = Kinds × List Text} (h.0, ws) r = same_some _ _ h.2 in
     let k = kinds_of_lem w h.0 h.1 in
-    let same : k.0 ≡ listed r.0 = sym (listed_kept k.0 k.2) ∙ ap listed k.3 ∙ (λ i. listed (p i).0) in
-    (w, (λ i. w ∷ (p i).1), subst (WritesKinds w) same k.1, subst (λ ks. length ks ≤ most_columns) same k.2)
+    let P : List Kind × List Text → Type 0 = λ r. (x : Text) × (w ∷ ws ≡ x ∷ r.1) × WritesKinds x r.0 × (length r.0 ≤ most_columns) in
+    subst P (same_some _ _ h.2) (w, refl, k.0, k.1)
 
-kinds_take : (w : Text) (ks : List Kind) (on : List Text) → WritesKinds w ks → length ks ≤ most_columns → take_kinds (w ∷ on) ≡ Some (kept ks, on)
-kinds_take w ks on h le = then_is (kinds_of w) (λ ks. Some (ks, on)) (kept ks) (kinds_is w ks h le)
+kinds_take : (w : Text) (ks : List Kind) (on : List Text) → WritesKinds w ks → length ks ≤ most_columns → take_kinds (w ∷ on) ≡ Some (ks, on)
+kinds_take w ks on h le = then_is (kinds_of w) (λ ks. Some (ks, on)) ks (kinds_is w ks h le)
 
 -- ---- blank lines
 
@@ -71,6 +63,16 @@ row_read ws p e =
     subst (λ p. Writes (codes "row" ∷ ws) (row p.from p.until (values_in p.values))) c.1
     (x.0, y.0, ts, ap (λ l. codes "row" ∷ l) (x.1 ∙ ap (λ l. x.0 ∷ l) y.1), x.2, y.2, omega arith, v)
 
+only_name_read : (ws : List Text) (n : Text) → only_name ws ≡ Some n → (ws ≡ n ∷ []) × Name n
+only_name_read ws n e =
+    let a = then_some (take_name ws) _ n e in
+    let z = then_some (nothing a.0.1) _ n a.2 in
+    let r = name_read ws a.0 a.1 in
+    subst (λ n. (ws ≡ n ∷ []) × Name n) (same_some _ _ z.2) (r.0 ∙ ap (λ x. a.0.0 ∷ x) (nothing_read a.0.1 z.0 z.1), r.1)
+
+only_name_take : (n : Text) → Name n → only_name (n ∷ []) ≡ Some n
+only_name_take n h = then_is (take_name (n ∷ [])) (λ n. nothing n.1 then (λ _. Some n.0)) (n, []) (name_take n [] h)
+
 form_read : (ws : List Text) (l : Line) (k : Keyword) → form (Some k) ws ≡ Some l → Writes (spelled k ∷ ws) l
 form_read ws l Load e =
     let n = then_some (take_name ws) _ l e in
@@ -87,17 +89,13 @@ form_read ws l End e =
     let z = then_some (nothing ws) _ l e in
     subst (Writes (codes "end" ∷ ws)) (same_some _ _ z.2) (ap (λ x. codes "end" ∷ x) (nothing_read ws z.0 z.1))
 form_read ws l Drop e =
-    let n = then_some (take_name ws) _ l e in
-    let z = then_some (nothing n.0.1) _ l n.2 in
-    let a = name_read ws n.0 n.1 in
-    let c = nothing_read n.0.1 z.0 z.1 in
-    subst (Writes (codes "drop" ∷ ws)) (same_some _ _ z.2) (ap (λ x. codes "drop" ∷ x) (a.0 ∙ ap (λ x. n.0.0 ∷ x) c), a.1)
+    let n = then_some (only_name ws) (λ n. Some (drop n)) l e in
+    let a = only_name_read ws n.0 n.1 in
+    subst (Writes (codes "drop" ∷ ws)) (same_some _ _ n.2) (ap (λ x. codes "drop" ∷ x) a.0, a.1)
 form_read ws l Show e =
-    let n = then_some (take_name ws) _ l e in
-    let z = then_some (nothing n.0.1) _ l n.2 in
-    let a = name_read ws n.0 n.1 in
-    let c = nothing_read n.0.1 z.0 z.1 in
-    subst (Writes (codes "show" ∷ ws)) (same_some _ _ z.2) (ap (λ x. codes "show" ∷ x) (a.0 ∙ ap (λ x. n.0.0 ∷ x) c), a.1)
+    let n = then_some (only_name ws) (λ n. Some (show n)) l e in
+    let a = only_name_read ws n.0 n.1 in
+    subst (Writes (codes "show" ∷ ws)) (same_some _ _ n.2) (ap (λ x. codes "show" ∷ x) a.0, a.1)
 form_read ws l (Query v) e =
     let n = then_some (take_name ws) _ l e in
     let s = then_some (take_equals n.0.1) _ l n.2 in
@@ -140,9 +138,8 @@ line_written ws skip h = cond-true (is_blank ws) _ _ (blank_is ws h)
 line_written ws (load n ks) h =
     let w = h.0 in
     ap line_of h.1
-    ∙ then_is (take_name (n ∷ w ∷ [])) (λ n. take_kinds n.1 then (λ k. nothing k.1 then (λ _. Some (load n.0 (listed k.0))))) (n, w ∷ []) (name_take n (w ∷ []) h.2)
-    ∙ then_is (take_kinds (w ∷ [])) (λ k. nothing k.1 then (λ _. Some (load n (listed k.0)))) (kept ks, []) (kinds_take w ks [] h.3 h.4)
-    ∙ ap (λ l. Some (load n l)) (listed_kept ks h.4)
+    ∙ then_is (take_name (n ∷ w ∷ [])) (λ n. take_kinds n.1 then (λ k. nothing k.1 then (λ _. Some (load n.0 k.0)))) (n, w ∷ []) (name_take n (w ∷ []) h.2)
+    ∙ then_is (take_kinds (w ∷ [])) (λ k. nothing k.1 then (λ _. Some (load n k.0))) (ks, []) (kinds_take w ks [] h.3 h.4)
 line_written ws (row f u vs) h =
     let x = h.0 in
     let y = h.1 in
@@ -158,8 +155,8 @@ line_written ws (row f u vs) h =
     in
     ap line_of h.3 ∙ then_is (take_row (x ∷ y ∷ ts)) (λ p. Some (row p.from p.until (values_in p.values))) p taken ∙ ap (λ l. Some (row f u l)) v.1
 line_written ws end h = ap line_of h
-line_written ws (drop n) h = ap line_of h.0 ∙ then_is (take_name (n ∷ [])) (λ n. nothing n.1 then (λ _. Some (drop n.0))) (n, []) (name_take n [] h.1)
-line_written ws (show n) h = ap line_of h.0 ∙ then_is (take_name (n ∷ [])) (λ n. nothing n.1 then (λ _. Some (show n.0))) (n, []) (name_take n [] h.1)
+line_written ws (drop n) h = ap line_of h.0 ∙ then_is (only_name (n ∷ [])) (λ n. Some (drop n)) n (only_name_take n h.1)
+line_written ws (show n) h = ap line_of h.0 ∙ then_is (only_name (n ∷ [])) (λ n. Some (show n)) n (only_name_take n h.1)
 line_written ws (query n q) h =
     let v = h.0 in
     let vs = h.1 in

@@ -1,10 +1,11 @@
 -- The forms of a line, as a reader of its words.
-use Rattle.std.specs.Prelude.{ℕ, Bool, true, false, cond, ◌&&◌, List, [], ◌∷◌, length, is_some, Some, None, Option, nat_le}
+use Rattle.std.specs.Prelude.{ℕ, Bool, true, false, cond, ◌&&◌, List, [], ◌∷◌, length, ℤ, is_some, Some, None, Option, nat_le}
+use Rattle.std.specs.List.{list_all}
 use Rattle.std.specs.Str.{bytes_eq}
 use Rattle.relation.specs.declared.conditions.Term.{Term}
 use Rattle.relation.specs.declared.conditions.Term.TheVariants as term
+use Rattle.tallies.specs.declared.rules.Tally.{Tally}
 use Rattle.tallies.specs.declared.rules.Tally.TheVariants as tallying
-use Rattle.relation.specs.Stored.{listed}
 use Rattle.relation.specs.Values.{word_value}
 use Rattle.words.specs.declared.names.Reserved.{Reserved}
 use Rattle.words.specs.declared.names.Reserved.TheVariants as reserved
@@ -19,7 +20,7 @@ use Rattle.grammar.specs.declared.keywords.Keyword.{Keyword}
 use Rattle.grammar.specs.declared.keywords.Keyword.TheVariants.{Load, Row, End, Drop, Show, Query}
 use Rattle.grammar.specs.Keywords.{keyword}
 use Rattle.grammar.specs.declared.queries.Measure.{Measure}
-use Rattle.grammar.specs.Said.{column_at, pair_at, values_in, columns_in, pairs_in, says_operand}
+use Rattle.grammar.specs.Said.{column_at, pair_at, values_in, columns_in, pairs_in, windowed, says_operand}
 use Rattle.grammar.specs.Meaning as meaning
 
 -- ---- parts
@@ -29,13 +30,17 @@ abbrev pub take_reserved : Reserved → List Text → Option (List Text)
 take_reserved r [] = None
 take_reserved r (w ∷ ws) = cond (bytes_eq w (spelled_reserved r)) (Some ws) None
 
--- a name, with a window if `during` follows
-abbrev pub windowed : Text → List Text → Option (List Text) → Option (meaning.Operand × List Text)
-windowed a ws None = Some (meaning.whole a, ws)
-windowed a ws (Some on) = take_number on then (λ f. take_number f.1 then (λ u. Some (meaning.part a f.0 u.0, u.1)))
+-- no window, or the one that follows `during`
+abbrev pub window_after : List Text → Option (List Text) → Option (Option (ℤ × ℤ) × List Text)
+window_after ws None = Some (None, ws)
+window_after ws (Some on) = take_number on then (λ f. take_number f.1 then (λ u. Some (Some (f.0, u.0), u.1)))
 
+abbrev pub window : List Text → Option (Option (ℤ × ℤ) × List Text)
+window ws = window_after ws (take_reserved reserved.During ws)
+
+-- a name, with a window if `during` follows
 abbrev pub operand : List Text → Option (meaning.Operand × List Text)
-operand ws = take_name ws then (λ a. windowed a.0 a.1 (take_reserved reserved.During a.1))
+operand ws = take_name ws then (λ a. window a.1 then (λ d. Some (windowed a.0 d.0, d.1)))
 
 -- a value or a column
 abbrev pub term_in : Tok → Option Term
@@ -51,8 +56,7 @@ take_term ws = take_token position.Column ws then (λ t. term_in t.0 then (λ x.
 -- ---- tails
 
 abbrev pub all_columns : List Text → Bool
-all_columns [] = true
-all_columns (w ∷ ws) = is_some (column_at w) && all_columns ws
+all_columns ws = list_all (λ w. is_some (column_at w)) ws
 
 abbrev pub all_pairs : List Text → Bool
 all_pairs [] = true
@@ -90,28 +94,39 @@ measured ws =
     operand ws then (λ a. take_reserved reserved.Of a.1 then (λ on. take_column on then (λ c. take_groups c.1 then (λ gs.
     Some (record { operand = a.0; column = c.0; groups = gs })))))
 
+abbrev pub tallied : Tally → Measured → meaning.Query
+tallied t m = meaning.tally t m.operand (columns_in m.groups)
+
+-- two operands, and nothing after them
+abbrev pub both : List Text → Option (meaning.Operand × meaning.Operand)
+both ws = operand ws then (λ a. operand a.1 then (λ b. nothing b.1 then (λ _. Some (a.0, b.0))))
+
 abbrev pub query_of : Verb → List Text → Option meaning.Query
 query_of Select ws =
     operand ws then (λ a. take_reserved reserved.Where a.1 then (λ on. take_column on then (λ c. take_sign c.1 then (λ s. take_term s.1 then (λ x. nothing x.1 then (λ _.
     Some (meaning.select a.0 (record { column = c.0; sign = s.0; term = x.0 }))))))))
 query_of Project ws = operand ws then (λ a. take_reserved reserved.On a.1 then (λ on. filled all_columns on then (λ cs. Some (meaning.project a.0 (columns_in cs)))))
-query_of Union ws = operand ws then (λ a. operand a.1 then (λ b. nothing b.1 then (λ _. Some (meaning.union a.0 b.0))))
-query_of Except ws = operand ws then (λ a. operand a.1 then (λ b. nothing b.1 then (λ _. Some (meaning.except a.0 b.0))))
+query_of Union ws = both ws then (λ p. Some (meaning.union p.0 p.1))
+query_of Except ws = both ws then (λ p. Some (meaning.except p.0 p.1))
 query_of Join ws = operand ws then (λ a. operand a.1 then (λ b. take_pairs b.1 then (λ ps. Some (meaning.join a.0 b.0 (pairs_in ps)))))
 query_of Count ws = operand ws then (λ a. take_groups a.1 then (λ gs. Some (meaning.tally tallying.Count a.0 (columns_in gs))))
-query_of Sum ws = measured ws then (λ m. Some (meaning.tally (tallying.Sum m.column) m.operand (columns_in m.groups)))
-query_of Min ws = measured ws then (λ m. Some (meaning.tally (tallying.Min m.column) m.operand (columns_in m.groups)))
-query_of Max ws = measured ws then (λ m. Some (meaning.tally (tallying.Max m.column) m.operand (columns_in m.groups)))
+query_of Sum ws = measured ws then (λ m. Some (tallied (tallying.Sum m.column) m))
+query_of Min ws = measured ws then (λ m. Some (tallied (tallying.Min m.column) m))
+query_of Max ws = measured ws then (λ m. Some (tallied (tallying.Max m.column) m))
 
 -- ---- lines
 
+-- a name, and nothing after it
+abbrev pub only_name : List Text → Option Text
+only_name ws = take_name ws then (λ n. nothing n.1 then (λ _. Some n.0))
+
 abbrev pub form : Option Keyword → List Text → Option meaning.Line
 form None ws = None
-form (Some Load) ws = take_name ws then (λ n. take_kinds n.1 then (λ k. nothing k.1 then (λ _. Some (meaning.load n.0 (listed k.0)))))
+form (Some Load) ws = take_name ws then (λ n. take_kinds n.1 then (λ k. nothing k.1 then (λ _. Some (meaning.load n.0 k.0))))
 form (Some Row) ws = take_row ws then (λ p. Some (meaning.row p.from p.until (values_in p.values)))
 form (Some End) ws = nothing ws then (λ _. Some meaning.end)
-form (Some Drop) ws = take_name ws then (λ n. nothing n.1 then (λ _. Some (meaning.drop n.0)))
-form (Some Show) ws = take_name ws then (λ n. nothing n.1 then (λ _. Some (meaning.show n.0)))
+form (Some Drop) ws = only_name ws then (λ n. Some (meaning.drop n))
+form (Some Show) ws = only_name ws then (λ n. Some (meaning.show n))
 form (Some (Query v)) ws = take_name ws then (λ n. take_equals n.1 then (λ on. query_of v on then (λ q. Some (meaning.query n.0 q))))
 
 abbrev pub worded : List Text → Option meaning.Line

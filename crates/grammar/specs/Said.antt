@@ -1,12 +1,12 @@
 -- What the lines that the reader answers say.
-use Rattle.std.specs.Prelude.{ℕ, List, [], ◌∷◌, Some, None, Option}
-use Rattle.relation.specs.Stored.{listed}
+use Rattle.std.specs.Prelude.{◌≡◌, ℕ, Bool, List, [], ◌∷◌, ℤ, Some, None, Option}
+use Rattle.relation.specs.Few.{items}
+use Rattle.words.specs.declared.reader.Words.{Words}
 use Rattle.words.specs.Rest.{rest}
 use Rattle.words.specs.Token.{token}
 use Rattle.takers.specs.Take.{Text, Val, ◌then◌, column_in, value_of}
 use Rattle.words.specs.declared.tokens.Position.TheVariants as position
 use Rattle.grammar.specs.declared.lines.Operand.{Operand}
-use Rattle.grammar.specs.declared.lines.Operand.TheVariants as operand
 use Rattle.grammar.specs.declared.lines.Query.{Query}
 use Rattle.grammar.specs.declared.lines.Query.TheVariants as query
 use Rattle.grammar.specs.declared.lines.Line.{Line}
@@ -44,11 +44,19 @@ pairs_in [] = []
 pairs_in (x ∷ []) = []
 pairs_in (x ∷ y ∷ ws) = also (pair_at x y) (pairs_in ws)
 
+-- a test of a line's words answers as h does of their bytes
+abbrev pub Tells : (Words → Bool → Type 0) → (List Text → Bool) → Type 0
+Tells answers h = (w : Words) (b : Bool) → answers w b → b ≡ h (rest w)
+
 -- ---- lines
 
+-- a relation, in a window if there is one
+abbrev pub windowed : Text → Option (ℤ × ℤ) → meaning.Operand
+windowed a None = meaning.whole a
+windowed a (Some d) = meaning.part a d.0 d.1
+
 abbrev pub says_operand : Operand → meaning.Operand
-says_operand (operand.Whole n) = meaning.whole n.now
-says_operand (operand.During n f u) = meaning.part n.now f u
+says_operand o = windowed o.name.now o.during
 
 abbrev pub says_query : Query → meaning.Query
 says_query (query.Select a q) = meaning.select (says_operand a) q
@@ -60,7 +68,7 @@ says_query (query.Tally t a ws) = meaning.tally t (says_operand a) (columns_in (
 
 abbrev pub says : Line → meaning.Line
 says line.Skip = meaning.skip
-says (line.Load n k) = meaning.load n.now (listed k)
+says (line.Load n k) = meaning.load n.now (items k)
 says (line.Row p) = meaning.row p.from p.until (values_in (rest p.values))
 says line.End = meaning.end
 says (line.Drop n) = meaning.drop n.now

@@ -4,7 +4,7 @@ ghost use Rattle.std.specs.Option.{option_map};
 ghost use Rattle.words.specs.Words.{words as words_of};
 ghost use Rattle.words.specs.Rest.{rest, texts};
 ghost use Rattle.grammar.specs.Said.{says};
-ghost use Rattle.grammar.specs.Grammar.{form, worded, line_of};
+ghost use Rattle.grammar.specs.Grammar.{only_name, form, worded, line_of};
 ghost use Rattle.grammar.specs.Language.{Reads, OneReading};
 
 use crate::keywords::{Keyword, Verb, find_keyword};
@@ -23,12 +23,6 @@ fn load_form<'a>(words: &mut Words<'a>) -> Option<Line<'a>>
     Some(Line::Load(name, kinds))
 }
 
-fn row_form<'a>(words: &mut Words<'a>) -> Option<Line<'a>>
-    ensures { option_map says result ≡ form (Some Keyword.Row) (rest words.old) }
-{
-    Some(Line::Row(take_row(words)?))
-}
-
 fn end_form<'a>(words: &mut Words<'a>) -> Option<Line<'a>>
     ensures { option_map says result ≡ form (Some Keyword.End) (rest words.old) }
 {
@@ -36,20 +30,13 @@ fn end_form<'a>(words: &mut Words<'a>) -> Option<Line<'a>>
     Some(Line::End)
 }
 
-fn drop_form<'a>(words: &mut Words<'a>) -> Option<Line<'a>>
-    ensures { option_map says result ≡ form (Some Keyword.Drop) (rest words.old) }
+// A name, and nothing after it.
+fn only_name<'a>(words: &mut Words<'a>) -> Option<&'a [u8]>
+    ensures { option_map (λ n. n.now) result ≡ only_name (rest words.old) }
 {
     let name = take_name(words)?;
     take_end(words)?;
-    Some(Line::Drop(name))
-}
-
-fn show_form<'a>(words: &mut Words<'a>) -> Option<Line<'a>>
-    ensures { option_map says result ≡ form (Some Keyword.Show) (rest words.old) }
-{
-    let name = take_name(words)?;
-    take_end(words)?;
-    Some(Line::Show(name))
+    Some(name)
 }
 
 fn query_form<'a>(verb: Verb, words: &mut Words<'a>) -> Option<Line<'a>>
@@ -67,10 +54,10 @@ fn read_form<'a>(keyword: Keyword, words: &mut Words<'a>) -> Option<Line<'a>>
 {
     match keyword {
         Keyword::Load => load_form(words),
-        Keyword::Row => row_form(words),
+        Keyword::Row => Some(Line::Row(take_row(words)?)),
         Keyword::End => end_form(words),
-        Keyword::Drop => drop_form(words),
-        Keyword::Show => show_form(words),
+        Keyword::Drop => Some(Line::Drop(only_name(words)?)),
+        Keyword::Show => Some(Line::Show(only_name(words)?)),
         Keyword::Query(verb) => query_form(verb, words),
     }
 }

@@ -1,8 +1,10 @@
 // The first word of a line, which decides its form.
 ghost use Rattle.std.specs.Prelude.{◌≡◌};
+ghost use Rattle.std.specs.Result.{result_ok};
 ghost use Rattle.grammar.specs.Keywords.{keyword};
 
-use std::str::from_utf8;
+use std::str::{FromStr, from_utf8};
+use words::names::UnknownWord;
 
 // The nine queries.
 #[derive(Clone, Copy, Drop)]
@@ -28,25 +30,29 @@ pub enum Keyword {
     Query(Verb),
 }
 
-fn text_keyword(text: &str) -> Option<Keyword>
-    ensures { result ≡ keyword text.now }
-{
-    match text {
-        "load" => Some(Keyword::Load),
-        "row" => Some(Keyword::Row),
-        "end" => Some(Keyword::End),
-        "drop" => Some(Keyword::Drop),
-        "show" => Some(Keyword::Show),
-        "select" => Some(Keyword::Query(Verb::Select)),
-        "project" => Some(Keyword::Query(Verb::Project)),
-        "union" => Some(Keyword::Query(Verb::Union)),
-        "except" => Some(Keyword::Query(Verb::Except)),
-        "join" => Some(Keyword::Query(Verb::Join)),
-        "count" => Some(Keyword::Query(Verb::Count)),
-        "sum" => Some(Keyword::Query(Verb::Sum)),
-        "min" => Some(Keyword::Query(Verb::Min)),
-        "max" => Some(Keyword::Query(Verb::Max)),
-        _ => None,
+impl FromStr for Keyword {
+    type Err = UnknownWord;
+
+    ghost from_str_gives = { λ text r. result_ok r ≡ keyword text };
+
+    fn from_str(text: &str) -> Result<Keyword, UnknownWord> {
+        match text {
+            "load" => Ok(Keyword::Load),
+            "row" => Ok(Keyword::Row),
+            "end" => Ok(Keyword::End),
+            "drop" => Ok(Keyword::Drop),
+            "show" => Ok(Keyword::Show),
+            "select" => Ok(Keyword::Query(Verb::Select)),
+            "project" => Ok(Keyword::Query(Verb::Project)),
+            "union" => Ok(Keyword::Query(Verb::Union)),
+            "except" => Ok(Keyword::Query(Verb::Except)),
+            "join" => Ok(Keyword::Query(Verb::Join)),
+            "count" => Ok(Keyword::Query(Verb::Count)),
+            "sum" => Ok(Keyword::Query(Verb::Sum)),
+            "min" => Ok(Keyword::Query(Verb::Min)),
+            "max" => Ok(Keyword::Query(Verb::Max)),
+            _ => Err(UnknownWord),
+        }
     }
 }
 
@@ -54,8 +60,5 @@ fn text_keyword(text: &str) -> Option<Keyword>
 pub fn find_keyword(word: &[u8]) -> Option<Keyword>
     ensures { result ≡ keyword word.now }
 {
-    match from_utf8(word) {
-        Ok(text) => text_keyword(text),
-        Err(_) => None,
-    }
+    from_utf8(word).ok()?.parse().ok()
 }

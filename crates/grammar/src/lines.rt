@@ -7,9 +7,9 @@ use words::reader::Words;
 
 // A relation that a query reads, whole or during the days from one number up to another.
 #[derive(Clone, Copy, Drop)]
-pub enum Operand<'a> {
-    Whole(&'a [u8]),
-    During(&'a [u8], i64, i64),
+pub struct Operand<'a> {
+    pub name: &'a [u8],
+    pub during: Option<(i64, i64)>,
 }
 
 #[derive(Clone, Copy, Drop)]

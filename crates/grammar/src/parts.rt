@@ -2,7 +2,7 @@
 ghost use Rattle.std.specs.Prelude.{◌≡◌, true, false, if◌then◌else◌, Some, None, MatchOption};
 ghost use Rattle.words.specs.Rest.{rest};
 ghost use Rattle.words.specs.Token.{means};
-ghost use Rattle.grammar.specs.Grammar.{take_reserved, operand as operand_in, term_in, take_term};
+ghost use Rattle.grammar.specs.Grammar.{take_reserved, window, operand as operand_in, term_in, take_term};
 ghost use Rattle.grammar.specs.Said.{says_operand};
 
 use crate::lines::Operand;
@@ -17,12 +17,7 @@ use words::tokens::{Position, Token};
 pub(crate) fn take_reserved<'a>(words: &mut Words<'a>, wanted: Reserved) -> Option<()>
     ensures { MatchOption result (take_reserved wanted (rest words.old) ≡ None) (λ _. take_reserved wanted (rest words.old) ≡ Some (rest words.new)) }
 {
-    let word = words.next()?;
-    if find_reserved(word.text)? == wanted {
-        Some(())
-    } else {
-        None
-    }
+    (find_reserved(words.next()?.text)? == wanted).then_some(())
 }
 
 // Whether the next word is the reserved one, which is then taken.
@@ -31,13 +26,23 @@ pub(crate) fn take_if<'a>(words: &mut Words<'a>, wanted: Reserved) -> bool
     ensures kept { result ≡ false → words.new ≡ words.old }
 {
     let mut ahead = *words;
-    match take_reserved(&mut ahead, wanted) {
-        Some(_) => {
-            *words = ahead;
-            true
-        }
-        None => false,
+    let found = take_reserved(&mut ahead, wanted).is_some();
+    if found {
+        *words = ahead;
     }
+    found
+}
+
+// Nothing, or `during FROM UNTIL`.
+fn take_window<'a>(words: &mut Words<'a>) -> Option<Option<(i64, i64)>>
+    ensures { MatchOption result (window (rest words.old) ≡ None) (λ d. window (rest words.old) ≡ Some (d, rest words.new)) }
+{
+    if !take_if(words, Reserved::During) {
+        return Some(None);
+    }
+    let from = take_number(words)?;
+    let until = take_number(words)?;
+    Some(Some((from, until)))
 }
 
 // A name, perhaps followed by `during FROM UNTIL`.
@@ -45,24 +50,18 @@ pub fn take_operand<'a>(words: &mut Words<'a>) -> Option<Operand<'a>>
     ensures { MatchOption result (operand_in (rest words.old) ≡ None) (λ a. operand_in (rest words.old) ≡ Some (says_operand a, rest words.new)) }
 {
     let name = take_name(words)?;
-    if take_if(words, Reserved::During) {
-        let from = take_number(words)?;
-        let until = take_number(words)?;
-        Some(Operand::During(name, from, until))
-    } else {
-        Some(Operand::Whole(name))
-    }
+    let during = take_window(words)?;
+    Some(Operand { name, during })
 }
 
 fn as_term(token: Token) -> Option<Term>
     ensures { result ≡ term_in (means token.entry) }
 {
     match token {
-        Token::Name(_) => None,
         Token::Number(z) => Some(Term::Number(z)),
-        Token::Quoted(q) => Some(Term::Word(word_value(q)?)),
+        Token::Quoted(q) => word_value(q).map(Term::Word),
         Token::Column(k) => Some(Term::Column(k)),
-        Token::Sign(_) => None,
+        _ => None,
     }
 }
 
@@ -70,6 +69,5 @@ fn as_term(token: Token) -> Option<Term>
 pub fn take_term<'a>(words: &mut Words<'a>) -> Option<Term>
     ensures { MatchOption result (take_term (rest words.old) ≡ None) (λ x. take_term (rest words.old) ≡ Some (x, rest words.new)) }
 {
-    let placed = take_token(words, Position::Column)?;
-    as_term(placed.token)
+    as_term(take_token(words, Position::Column)?.token)
 }

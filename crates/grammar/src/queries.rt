@@ -2,8 +2,8 @@
 ghost use Rattle.std.specs.Prelude.{◌≡◌};
 ghost use Rattle.std.specs.Option.{option_map};
 ghost use Rattle.words.specs.Rest.{rest};
-ghost use Rattle.grammar.specs.Said.{says_query};
-ghost use Rattle.grammar.specs.Grammar.{query_of, measured, says_measured};
+ghost use Rattle.grammar.specs.Said.{says_operand, says_query};
+ghost use Rattle.grammar.specs.Grammar.{both, query_of, measured, says_measured, tallied};
 
 use crate::keywords::Verb;
 use crate::lines::{Operand, Query};
@@ -36,22 +36,14 @@ fn project_query<'a>(words: &mut Words<'a>) -> Option<Query<'a>>
     Some(Query::Project(operand, columns))
 }
 
-fn union_query<'a>(words: &mut Words<'a>) -> Option<Query<'a>>
-    ensures { option_map says_query result ≡ query_of Verb.Union (rest words.old) }
+// Two operands, and nothing after them.
+fn take_both<'a>(words: &mut Words<'a>) -> Option<(Operand<'a>, Operand<'a>)>
+    ensures { option_map (λ p. (says_operand p.0, says_operand p.1)) result ≡ both (rest words.old) }
 {
     let a = take_operand(words)?;
     let b = take_operand(words)?;
     take_end(words)?;
-    Some(Query::Union(a, b))
-}
-
-fn except_query<'a>(words: &mut Words<'a>) -> Option<Query<'a>>
-    ensures { option_map says_query result ≡ query_of Verb.Except (rest words.old) }
-{
-    let a = take_operand(words)?;
-    let b = take_operand(words)?;
-    take_end(words)?;
-    Some(Query::Except(a, b))
+    Some((a, b))
 }
 
 fn join_query<'a>(words: &mut Words<'a>) -> Option<Query<'a>>
@@ -93,25 +85,12 @@ fn take_measure<'a>(words: &mut Words<'a>) -> Option<Measure<'a>>
     })
 }
 
-fn sum_query<'a>(words: &mut Words<'a>) -> Option<Query<'a>>
-    ensures { option_map says_query result ≡ query_of Verb.Sum (rest words.old) }
-{
-    let measure = take_measure(words)?;
-    Some(Query::Tally(Tally::Sum(measure.column), measure.operand, measure.groups))
-}
-
-fn min_query<'a>(words: &mut Words<'a>) -> Option<Query<'a>>
-    ensures { option_map says_query result ≡ query_of Verb.Min (rest words.old) }
-{
-    let measure = take_measure(words)?;
-    Some(Query::Tally(Tally::Min(measure.column), measure.operand, measure.groups))
-}
-
-fn max_query<'a>(words: &mut Words<'a>) -> Option<Query<'a>>
-    ensures { option_map says_query result ≡ query_of Verb.Max (rest words.old) }
-{
-    let measure = take_measure(words)?;
-    Some(Query::Tally(Tally::Max(measure.column), measure.operand, measure.groups))
+impl<'a> Measure<'a> {
+    fn tally(self, tally: Tally) -> Query<'a>
+        ensures { says_query result ≡ tallied tally (says_measured self.entry) }
+    {
+        Query::Tally(tally, self.operand, self.groups)
+    }
 }
 
 // The query that its verb and the words after `NEW =` are.
@@ -121,12 +100,12 @@ pub(crate) fn read_query<'a>(verb: Verb, words: &mut Words<'a>) -> Option<Query<
     match verb {
         Verb::Select => select_query(words),
         Verb::Project => project_query(words),
-        Verb::Union => union_query(words),
-        Verb::Except => except_query(words),
+        Verb::Union => take_both(words).map(|(a, b)| Query::Union(a, b)),
+        Verb::Except => take_both(words).map(|(a, b)| Query::Except(a, b)),
         Verb::Join => join_query(words),
         Verb::Count => count_query(words),
-        Verb::Sum => sum_query(words),
-        Verb::Min => min_query(words),
-        Verb::Max => max_query(words),
+        Verb::Sum => take_measure(words).map(|m| m.tally(Tally::Sum(m.column))),
+        Verb::Min => take_measure(words).map(|m| m.tally(Tally::Min(m.column))),
+        Verb::Max => take_measure(words).map(|m| m.tally(Tally::Max(m.column))),
     }
 }

@@ -1,9 +1,10 @@
 // The open tails of a query: columns and pairs of columns.
-ghost use Rattle.std.specs.Prelude.{◌≡◌, is_some};
+ghost use Rattle.std.specs.Prelude.{◌≡◌, Bool, List, is_some};
 ghost use Rattle.std.specs.Option.{option_map};
 ghost use Rattle.words.specs.Rest.{rest};
-ghost use Rattle.grammar.specs.Said.{column_at, pair_at};
-ghost use Rattle.grammar.specs.Grammar.{all_columns, all_pairs, filled, take_pairs, take_groups};
+ghost use Rattle.takers.specs.Take.{Text};
+ghost use Rattle.grammar.specs.Said.{column_at, pair_at, Tells};
+ghost use Rattle.grammar.specs.Grammar.{all_columns, all_pairs, filled, optionally, take_reserved, take_pairs, take_groups};
 
 use crate::parts::take_if;
 use takers::tails::some_left;
@@ -29,17 +30,17 @@ pub fn read_pair(left: &[u8], right: &[u8]) -> Option<(usize, usize)>
     Some((read_column(left)?, read_column(right)?))
 }
 
+fn is_column(word: &[u8]) -> bool
+    ensures { result ≡ is_some (column_at word.now) }
+{
+    read_column(word).is_some()
+}
+
 // Whether all words that are left are columns.
-fn all_columns(words: Words) -> bool
+fn all_columns(mut words: Words) -> bool
     ensures { result ≡ all_columns (rest words.entry) }
 {
-    let mut left = words;
-    while let Some(word) = left.next() {
-        if read_column(word.text).is_none() {
-            return false;
-        }
-    }
-    true
+    words.all(|word| is_column(word.text))
 }
 
 fn is_pair(left: &[u8], right: &[u8]) -> bool
@@ -49,12 +50,12 @@ fn is_pair(left: &[u8], right: &[u8]) -> bool
 }
 
 // Whether the words that are left are pairs of columns.
-fn all_pairs(words: Words) -> bool
+fn all_pairs(mut words: Words) -> bool
     ensures { result ≡ all_pairs (rest words.entry) }
 {
-    let mut left = words;
-    while let Some(one) = left.next() {
-        let Some(two) = left.next() else {
+    // A turn takes two words: no iterator of the library gives two items at a time and tells of one that is left over.
+    while let Some(one) = words.next() {
+        let Some(two) = words.next() else {
             return false;
         };
         if !is_pair(one.text, two.text) {
@@ -64,49 +65,48 @@ fn all_pairs(words: Words) -> bool
     true
 }
 
+// One word or more, all as wanted.
+fn take_filled<'a, F: Fn(Words<'a>) -> bool>(words: Words<'a>, wanted: F) -> Option<Words<'a>>
+    requires { F.IsAlwaysCallable wanted }
+    ensures { (h : List Text → Bool) → Tells (F.post wanted) h → option_map rest result ≡ filled h (rest words.entry) }
+{
+    (some_left(words) && wanted(words)).then_some(words)
+}
+
+// Nothing, or the reserved word and one word or more, all as wanted.
+fn take_optional<'a, F: Fn(Words<'a>) -> bool>(
+    words: &mut Words<'a>,
+    word: Reserved,
+    wanted: F,
+) -> Option<Words<'a>>
+    requires { F.IsAlwaysCallable wanted }
+    ensures { (h : List Text → Bool) → Tells (F.post wanted) h → option_map rest result ≡ optionally h (rest words.old) (take_reserved word (rest words.old)) }
+{
+    if take_if(words, word) {
+        return take_filled(*words, wanted);
+    }
+    let none = *words;
+    take_end(words)?;
+    Some(none)
+}
+
 // One column or more, and nothing after them.
 pub(crate) fn take_columns<'a>(words: &mut Words<'a>) -> Option<Words<'a>>
     ensures { option_map rest result ≡ filled all_columns (rest words.old) }
 {
-    let columns = *words;
-    if some_left(columns) && all_columns(columns) {
-        Some(columns)
-    } else {
-        None
-    }
-}
-
-fn some_pairs<'a>(words: &mut Words<'a>) -> Option<Words<'a>>
-    ensures { option_map rest result ≡ filled all_pairs (rest words.old) }
-{
-    let pairs = *words;
-    if some_left(pairs) && all_pairs(pairs) {
-        Some(pairs)
-    } else {
-        None
-    }
+    take_filled(*words, |columns| all_columns(columns))
 }
 
 // Nothing, or `on` and pairs of columns.
 pub(crate) fn take_pairs<'a>(words: &mut Words<'a>) -> Option<Words<'a>>
     ensures { option_map rest result ≡ take_pairs (rest words.old) }
 {
-    if take_if(words, Reserved::On) {
-        return some_pairs(words);
-    }
-    let none = *words;
-    take_end(words)?;
-    Some(none)
+    take_optional(words, Reserved::On, |pairs| all_pairs(pairs))
 }
 
 // Nothing, or `by` and columns.
 pub(crate) fn take_groups<'a>(words: &mut Words<'a>) -> Option<Words<'a>>
     ensures { option_map rest result ≡ take_groups (rest words.old) }
 {
-    if take_if(words, Reserved::By) {
-        return take_columns(words);
-    }
-    let none = *words;
-    take_end(words)?;
-    Some(none)
+    take_optional(words, Reserved::By, |columns| all_columns(columns))
 }

@@ -1,8 +1,10 @@
 -- Columns picked from kinds, tuples and stored rows.
-use Rattle.std.specs.List.{list_all}
-use Rattle.std.proofs.Common.{◌≡◌, ℕ, zero, suc, ◌+◌, ◌-◌, ◌<◌, ◌≤◌, true, false, leb, List, [], ◌∷◌, map, length, get_or, take, set, pos, Some, None, Option, sym, refl, ap, ◌∙◌, subst, ap₂, ⊎_elim, arith}
-use Rattle.std.proofs.lemmas.List.{length-take-le, get_or-take, get_or-map}
-use Rattle.std.proofs.lemmas.Bool.{and_parts, cases_lt, le-leb, lt-leb, and_from, and_left, and_right}
+use Rattle.std.specs.List.{slice_get, list_all, enumerate_from, AllWithin, HoldsAt}
+use Rattle.std.specs.Option.{MatchOption, unwrap_or, option_map}
+use Rattle.std.proofs.lemmas.List.FromFn.{length-enumerate_from, get_or-enumerate_from}
+use Rattle.std.proofs.Common.{◌≡◌, ℕ, zero, suc, ◌+◌, ◌-◌, ◌<◌, ◌≤◌, true, leb, ◌≢◌, List, [], ◌∷◌, ◌++◌, map, length, get_or, take, set, pos, Some, None, Option, sym, refl, ap, ◌∙◌, subst, ap₂, ⊎_elim, arith}
+use Rattle.std.proofs.lemmas.List.{length-take, length-take-le, get_or-take, get_or-map, length-map, map-append, take_more}
+use Rattle.std.proofs.lemmas.Bool.{and_parts, cases_lt, le-leb, and_from}
 use Rattle.relation.specs.declared.kinds.Kind.TheVariants.{Number}
 use Rattle.relation.specs.declared.rows.Row.{Row}
 use Rattle.relation.specs.Bounds.{most_columns}
@@ -11,73 +13,72 @@ use Rattle.relation.specs.Sets.{Tuple, column}
 use Rattle.relation.specs.Stored.{firsts, stored}
 use Rattle.relation.specs.Operations.{picked}
 use Rattle.relation.proofs.Every.{every_at}
-use Rattle.relation.proofs.Firsts.{length_firsts, firsts_cut, firsts_all}
-use Rattle.source.specs.Meaning.{Meaning, Sound, NoneLed, Begins, nth, cell, value?, row?, kind_of, value_of, row_of}
-use Rattle.source.proofs.Cells.{nth_at, fits_length}
-use Rattle.layers.specs.declared.columns.Columns.{Columns}
-use Rattle.layers.specs.Columns.{chosen, is_column, are_columns, InRows, InPlace}
+use Rattle.source.specs.Meaning.{Meaning, Sound, NoneLed, Begins, cell, value?, row?, kind_of, value_of, row_of}
+use Rattle.std.proofs.lemmas.Option.{slice_get-get_or, slice_get-map}
+use Rattle.source.proofs.Cells.{fits_length}
+use Rattle.layers.specs.Columns.{is_column, are_columns, InPlace}
 use Rattle.layers.specs.Projects.{picked_row, projected, no_project}
 use Rattle.layers.specs.Soundness.{is_column_lem, Chosen, are_columns_lem}
 use Rattle.layers.proofs.Leads.{led}
-use Rattle.layers.proofs.Stores.{get_d_firsts, column_stored}
+use Rattle.layers.proofs.Stores.{column_stored}
 
 -- ---- columns that are looked at
 
-pub column_in_lem : (n c : ℕ) → 1 ≤ c → c ≤ n → true ≡ is_column n c
-column_in_lem n c h k = sym (and_from (leb 1 c) (leb c n) (le-leb 1 c h) (le-leb c n k))
-
-pub column_low : (n c : ℕ) → c < 1 → false ≡ is_column n c
-column_low n c h = sym (and_left (leb 1 c) (leb c n) (lt-leb 1 c h))
-
-pub column_high : (n c : ℕ) → n < c → false ≡ is_column n c
-column_high n c h = sym (and_right (leb 1 c) (leb c n) (lt-leb c n h))
-
-pub all_columns_lem : (n : ℕ) (cs : List ℕ) → 1 ≤ length cs → length cs ≤ most_columns → list_all (is_column n) cs ≡ true → are_columns n cs ≡ true
+pub all_columns_lem : (n : ℕ) (cs : List ℕ) → 0 < length cs → length cs ≤ most_columns → list_all (is_column n) cs ≡ true → are_columns n cs ≡ true
 all_columns_lem n cs some few each = and_from (leb 1 (length cs)) _ (le-leb 1 (length cs) some) (and_from (leb (length cs) most_columns) _ (le-leb (length cs) most_columns few) each)
 
-pub one_missing : (n : ℕ) (cs : List ℕ) → list_all (is_column n) cs ≡ false → are_columns n cs ≡ false
-one_missing n cs h = and_right (leb 1 (length cs)) _ (and_right (leb (length cs) most_columns) _ h)
+-- columns of a narrow source are columns of a wide one
+pub wider : (n m : ℕ) (cs : List ℕ) → n ≤ m → list_all (is_column n) cs ≡ true → list_all (is_column m) cs ≡ true
+wider n m [] h e = refl
+wider n m (c ∷ cs) h e =
+    let both = and_parts (is_column n c) (list_all (is_column n) cs) e in
+    let within = is_column_lem n c both.0 in
+    and_from (is_column m c) _ (and_from (leb 1 c) (leb c m) (le-leb 1 c within.0) (le-leb c m (omega (arith, within.1)))) (wider n m cs h both.1)
 
--- six places hold up to six columns
-pub chosen_all : (cs : List ℕ) (i : ℕ) → i ≡ length cs → i ≤ most_columns → firsts (length cs) (firsts most_columns (firsts i cs 0) 0) 0 ≡ cs
-chosen_all cs i e h =
-    firsts_cut (length cs) most_columns (firsts i cs 0) 0 (omega arith)
-    ∙ ap (λ j. firsts (length cs) (firsts j cs 0) 0) e ∙ ap (λ ys. firsts (length cs) ys 0) (firsts_all cs 0) ∙ firsts_all cs 0
+-- the columns before the first that is out of its place
+module _ (cs : List ℕ) where
+  at_own : (n : ℕ) → n ≤ length cs → AllWithin (λ p. p.1 ≡ p.0 + 1) (enumerate_from 0 cs) 0 n → (i : ℕ) → i < n → get_or cs i 0 ≡ i + 1
+  at_own n few each i lt =
+      let at = get_or-enumerate_from 0 cs i (0, 0) (omega arith) in
+      omega (arith, ap (λ p. p.0) at, ap (λ p. p.1) at, each i (0, 0) (omega arith) lt)
 
-in_rows : (n : ℕ) (s : Columns) → n ≤ most_columns → Chosen n (chosen s) → InRows s
-in_rows n s h c =
-    let long = length_firsts s.count s.at 0 in
-    record {
-      few = omega (arith, long, c.few);
-      each = λ i lt.
-          let within = is_column_lem n (get_or (chosen s) i 0) (every_at (is_column n) (chosen s) 0 i c.each (omega (arith, long))) in
-          let same = get_d_firsts s.count s.at 0 i lt in
-          (omega (arith, within.0, same), omega (arith, within.1, same));
-    }
-
-pub in_place : (s : Columns) (n : ℕ) → n ≤ s.count → ((i : ℕ) → i < n → get_or s.at i 0 ≡ i + 1) → (n < s.count → get_or s.at n 0 ≡ n + 1 → ⊥) → InPlace (chosen s) n
-in_place s n h each last = record {
-  few = omega (arith, length_firsts s.count s.at 0);
-  each = λ i lt. get_d_firsts s.count s.at 0 i (omega arith) ∙ each i lt;
-  last = λ lt e. let more : n < s.count = omega (arith, length_firsts s.count s.at 0) in last more (sym (get_d_firsts s.count s.at 0 n more) ∙ e);
-}
+  pub in_place : (r : Option ℕ) → MatchOption r (AllWithin (λ p. p.1 ≡ p.0 + 1) (enumerate_from 0 cs) 0 (length (enumerate_from 0 cs))) (λ i. (i < length (enumerate_from 0 cs)) × HoldsAt (λ p. p.1 ≢ p.0 + 1) (enumerate_from 0 cs) i × AllWithin (λ p. p.1 ≡ p.0 + 1) (enumerate_from 0 cs) 0 i)
+      → InPlace cs (unwrap_or r (length cs))
+  in_place None each = record {
+    few = omega arith;
+    each = at_own (length cs) (omega arith) (λ k d low lt. each k d low (omega (arith, length-enumerate_from 0 cs)));
+    last = λ lt. absurd (omega arith);
+  }
+  in_place (Some i) first =
+      let lt : i < length cs = omega (arith, first.0, length-enumerate_from 0 cs) in
+      let at = get_or-enumerate_from 0 cs i (0, 0) lt in
+      record {
+        few = omega arith;
+        each = at_own i (omega arith) first.2;
+        last = λ _ own. first.1 (0, 0) (omega (arith, ap (λ p. p.0) at, ap (λ p. p.1) at, own));
+      }
 
 -- ---- picked values
 
 -- one more is written over the padding
-pub pick_more : {X Y : Type 0} (f : X → Y) (n i : ℕ) (xs : List X) (d : X) (e : Y) → i < n → set (firsts n (map f (firsts i xs d)) e) i (f (get_or xs i d)) ≡ firsts n (map f (firsts (suc i) xs d)) e
-pick_more f zero i xs d e h = absurd (omega arith)
-pick_more f (suc n) zero [] d e h = refl
-pick_more f (suc n) zero (x ∷ xs) d e h = refl
-pick_more f (suc n) (suc i) [] d e h = ap (λ ys. f d ∷ ys) (pick_more f n i [] d e (omega arith))
-pick_more f (suc n) (suc i) (x ∷ xs) d e h = ap (λ ys. f x ∷ ys) (pick_more f n i xs d e (omega arith))
+pub firsts_push : {X : Type 0} (n : ℕ) (xs : List X) (d v : X) (i : ℕ) → length xs ≡ i → i < n → set (firsts n xs d) i v ≡ firsts n (xs ++ v ∷ []) d
+firsts_push zero xs d v i e lt = absurd (omega arith)
+firsts_push (suc n) [] d v zero e lt = refl
+firsts_push (suc n) [] d v (suc i) e lt = absurd (omega arith)
+firsts_push (suc n) (x ∷ xs) d v zero e lt = absurd (omega arith)
+firsts_push (suc n) (x ∷ xs) d v (suc i) e lt = ap (λ l. x ∷ l) (firsts_push n xs d v i (omega arith) (omega arith))
+
+pub pick_more : (vs : Tuple) (cs : List ℕ) (i : ℕ) → i < length cs → i < most_columns → set (firsts most_columns (picked (take i cs) vs) (pos 0)) i (column (get_or cs i 0) vs) ≡ firsts most_columns (picked (take (i + 1) cs) vs) (pos 0)
+pick_more vs cs i lt few =
+    firsts_push most_columns (picked (take i cs) vs) (pos 0) (column (get_or cs i 0) vs) i (omega (arith, length-map (take i cs) (λ c. column c vs), length-take i cs)) few
+    ∙ ap (λ l. firsts most_columns l (pos 0)) (sym (ap (λ l. picked l vs) (take_more cs i 0 lt) ∙ map-append (λ c. column c vs) (take i cs) (get_or cs i 0 ∷ [])))
 
 cell_in : {X : Type 0} (xs : List X) (c : ℕ) (d : X) → 1 ≤ c → c ≤ length xs → cell xs c ≡ Some (get_or xs (c - 1) d)
 cell_in xs zero d h k = absurd (omega arith)
-cell_in xs (suc i) d h k = let same : i ≡ suc i - 1 = omega arith in nth_at xs i d (omega arith) ∙ ap (λ j. Some (get_or xs j d)) same
+cell_in xs (suc i) d h k = let same : i ≡ suc i - 1 = omega arith in slice_get-get_or xs i d (omega arith) ∙ ap (λ j. Some (get_or xs j d)) same
 
 module _ {X : Type 0} (d : X) (xs : List X) where
-  nth_picked : (cs : List ℕ) (i b : ℕ) → list_all (is_column (length xs)) cs ≡ true → Some b ≡ nth cs i → cell xs b ≡ nth (map (λ c. get_or xs (c - 1) d) cs) i
+  nth_picked : (cs : List ℕ) (i b : ℕ) → list_all (is_column (length xs)) cs ≡ true → Some b ≡ slice_get cs i → cell xs b ≡ slice_get (map (λ c. get_or xs (c - 1) d) cs) i
   nth_picked [] i b h e = let z : ◌≡◌ {A = ℕ} 0 1 = cc in absurd (omega arith)
   nth_picked (c ∷ cs) zero b h e =
       let same : b ≡ c = cc in
@@ -89,14 +90,9 @@ module _ {X : Type 0} (d : X) (xs : List X) where
   cell_picked cs zero b h e = let z : ◌≡◌ {A = ℕ} 0 1 = cc in absurd (omega arith)
   cell_picked cs (suc c) b h e = nth_picked cs c b h e
 
-nth_beyond : {X Y : Type 0} (f : X → Y) (xs : List X) (i : ℕ) → None ≡ nth xs i → None ≡ nth (map f xs) i
-nth_beyond f [] i e = refl
-nth_beyond f (x ∷ xs) zero e = let z : ◌≡◌ {A = ℕ} 0 1 = cc in absurd (omega arith)
-nth_beyond f (x ∷ xs) (suc i) e = nth_beyond f xs i e
-
 pub cell_missing : {X Y : Type 0} (f : X → Y) (xs : List X) (c : ℕ) → None ≡ cell xs c → None ≡ cell (map f xs) c
 cell_missing f xs zero e = refl
-cell_missing f xs (suc c) e = nth_beyond f xs c e
+cell_missing f xs (suc c) e = sym (slice_get-map f xs c ∙ ap (option_map f) (sym e))
 
 -- ---- the parts of a row
 
@@ -167,27 +163,24 @@ picked_from cs (Some r) w p =
 
 -- ---- the questions to a project that was not refused
 
-module _ (m : Meaning) (s : Columns) (sound : Sound m) (allowed : no_project m (chosen s) ≡ None) where
-  rule : Chosen (length m.kinds) (chosen s)
-  rule = are_columns_lem m (chosen s) allowed
+module _ (m : Meaning) (cs : List ℕ) (sound : Sound m) (allowed : no_project m cs ≡ None) where
+  rule : Chosen (length m.kinds) cs
+  rule = are_columns_lem m cs allowed
 
   long : (k : ℕ) (r : SpecRow) → m.at k ≡ Some r → length r.tuple ≡ length m.kinds
   long k r e = fits_length m.kinds r.tuple (sound.filled k r e).fitting
 
-  pub columns_in_rows : InRows s
-  columns_in_rows = in_rows (length m.kinds) s sound.few_kinds rule
+  pub kind_picked : (c b : ℕ) → Some b ≡ cell cs c → kind_of m b ≡ kind_of (projected m cs) c
+  kind_picked c b e = cell_picked Number m.kinds cs c b rule.each e
 
-  pub kind_picked : (c b : ℕ) → Some b ≡ cell (chosen s) c → kind_of m b ≡ kind_of (projected m (chosen s)) c
-  kind_picked c b e = cell_picked Number m.kinds (chosen s) c b rule.each e
+  pub value_picked : (k c b : ℕ) → Some b ≡ cell cs c → value_of m k b ≡ value_of (projected m cs) k c
+  value_picked k c b e = picked_value (length m.kinds) cs (m.at k) c b rule.each (long k) e
 
-  pub value_picked : (k c b : ℕ) → Some b ≡ cell (chosen s) c → value_of m k b ≡ value_of (projected m (chosen s)) k c
-  value_picked k c b e = picked_value (length m.kinds) (chosen s) (m.at k) c b rule.each (long k) e
+  pub row_picked : (k : ℕ) (w : Row) (vs : Tuple) → Some w ≡ row_of m k → vs ≡ firsts most_columns (picked cs w.values) (pos 0) → Some (record { first = w.first; end = w.end; values = vs }) ≡ row_of (projected m cs) k
+  row_picked k w vs e h = ap (λ zs. Some (record { first = w.first; end = w.end; values = zs })) h ∙ picked_row_lem (length m.kinds) cs (m.at k) w sound.few_kinds rule.each e
 
-  pub row_picked : (k : ℕ) (w : Row) (vs : Tuple) → Some w ≡ row_of m k → vs ≡ firsts most_columns (picked (chosen s) w.values) (pos 0) → Some (record { first = w.first; end = w.end; values = vs }) ≡ row_of (projected m (chosen s)) k
-  row_picked k w vs e h = ap (λ zs. Some (record { first = w.first; end = w.end; values = zs })) h ∙ picked_row_lem (length m.kinds) (chosen s) (m.at k) w sound.few_kinds rule.each e
-
-  pub seek_picked : (lead : Tuple) (n j k r : ℕ) → InPlace (chosen s) n → j ≤ n → j ≤ length lead → NoneLed m (take j lead) k r → NoneLed (projected m (chosen s)) lead k r
-  seek_picked lead n j k r own few front = led m (projected m (chosen s)) lead (take j lead) k r refl (λ p w at h.
-      let v = picked_from (chosen s) (m.at p) w at in
-      let each : list_all (is_column (length v.0.tuple)) (chosen s) ≡ true = subst (λ c. list_all (is_column c) (chosen s) ≡ true) (sym (long p v.0 v.1.0)) rule.each in
-      (v.0, (v.1.0, begins_front (chosen s) v.0.tuple lead n j each own few front (subst (Begins lead) v.1.1 h))))
+  pub seek_picked : (lead : Tuple) (n j k r : ℕ) → InPlace cs n → j ≤ n → j ≤ length lead → NoneLed m (take j lead) k r → NoneLed (projected m cs) lead k r
+  seek_picked lead n j k r own few front = led m (projected m cs) lead (take j lead) k r refl (λ p w at h.
+      let v = picked_from cs (m.at p) w at in
+      let each : list_all (is_column (length v.0.tuple)) cs ≡ true = subst (λ c. list_all (is_column c) cs ≡ true) (sym (long p v.0 v.1.0)) rule.each in
+      (v.0, (v.1.0, begins_front cs v.0.tuple lead n j each own few front (subst (Begins lead) v.1.1 h))))

@@ -1,5 +1,8 @@
 -- Conditions and columns on a stored row.
 use Rattle.std.proofs.Common.{◌≡◌, ℕ, zero, suc, ◌-◌, ◌<◌, ◌≤◌, Bool, true, false, cond, List, [], ◌∷◌, length, get_or, pos, is_some, Some, None, Option, refl, ap, ◌∙◌, ap₂, arith}
+use Rattle.std.specs.List.{slice_get}
+use Rattle.std.specs.Option.{MatchOption}
+use Rattle.std.specs.Bool.{then_some}
 use Rattle.std.proofs.lemmas.Bool.{false≢true}
 use Rattle.relation.specs.declared.conditions.Condition.{Condition}
 use Rattle.relation.specs.declared.conditions.Term.{Term}
@@ -11,7 +14,7 @@ use Rattle.relation.specs.Sets.{Tuple, column}
 use Rattle.relation.specs.Rows.{SpecRow}
 use Rattle.relation.specs.Stored.{firsts, stored}
 use Rattle.relation.specs.Operations.{compares, valued, meets}
-use Rattle.source.specs.Meaning.{Meaning, Sound, cell, nth, row?, row_of}
+use Rattle.source.specs.Meaning.{Meaning, Sound, cell, row?, row_of}
 use Rattle.layers.specs.Alike.{alike}
 use Rattle.layers.specs.Selects.{kept, selected, term_kind, TermInRow, NamesInRow, no_select}
 use Rattle.layers.specs.Soundness.{passed}
@@ -36,13 +39,13 @@ valued_stored (Column c) t h = column_stored c t h.1
 meets_stored : (q : Condition) (t : Tuple) → NamesInRow q → meets q (firsts most_columns t (pos 0)) ≡ meets q t
 meets_stored q t h = ap₂ (compares q.sign) (column_stored q.column t h.0.1) (valued_stored q.term t h.1)
 
-kept_stored : (q : Condition) (o : Option SpecRow) (w : Row) (b : Bool) → NamesInRow q → Some w ≡ row? o → b ≡ meets q w.values → cond b (Some w) None ≡ row? (kept q o)
+kept_stored : (q : Condition) (o : Option SpecRow) (w : Row) (b : Bool) → NamesInRow q → Some w ≡ row? o → b ≡ meets q w.values → then_some b w ≡ row? (kept q o)
 kept_stored q None w b h e t = let z : ◌≡◌ {A = ℕ} 0 1 = cc in absurd (omega arith)
 kept_stored q (Some r) w b h e t =
     let same : w ≡ stored r = cc in
-    ap₂ (λ c v. cond c (Some v) None) (t ∙ ap (λ (v : Row). meets q v.values) same ∙ meets_stored q r.tuple h) same ∙ step (meets q r.tuple)
+    ap₂ then_some (t ∙ ap (λ (v : Row). meets q v.values) same ∙ meets_stored q r.tuple h) same ∙ step (meets q r.tuple)
   where
-    step : (b : Bool) → cond b (Some (stored r)) None ≡ row? (cond b (Some r) None)
+    step : (b : Bool) → then_some b (stored r) ≡ row? (cond b (Some r) None)
     step true = refl
     step false = refl
 
@@ -55,14 +58,14 @@ kept_whole q (Some r) w h = step (meets q r.tuple) h
     step true e = refl
     step false e = let z : ◌≡◌ {A = ℕ} 0 1 = cc in absurd (omega arith)
 
-nth_some : {X : Type 0} (xs : List X) (i : ℕ) → is_some (nth xs i) ≡ true → i < length xs
-nth_some [] i h = absurd (false≢true h)
-nth_some (x ∷ xs) zero h = omega arith
-nth_some (x ∷ xs) (suc i) h = let t = nth_some xs i h in omega arith
+slice_some : {X : Type 0} (xs : List X) (i : ℕ) → is_some (slice_get xs i) ≡ true → i < length xs
+slice_some [] i h = absurd (false≢true h)
+slice_some (x ∷ xs) zero h = omega arith
+slice_some (x ∷ xs) (suc i) h = let t = slice_some xs i h in omega arith
 
 cell_some : {X : Type 0} (xs : List X) (c : ℕ) → is_some (cell xs c) ≡ true → (1 ≤ c) × (c ≤ length xs)
 cell_some xs zero h = absurd (false≢true h)
-cell_some xs (suc c) h = let t = nth_some xs c h in (omega arith, omega arith)
+cell_some xs (suc c) h = let t = slice_some xs c h in (omega arith, omega arith)
 
 alike_some : (o p : Option Kind) → alike o p ≡ true → (is_some o ≡ true) × (is_some p ≡ true)
 alike_some None p h = absurd (false≢true h)
@@ -81,6 +84,12 @@ names_in_row m q s allowed =
     let t = cell_some m.kinds q.column there.0 in
     ((t.0, omega (arith, t.1, s.few_kinds)), term_in_row m q.term s there.1)
 
+none_kept : (q : Condition) (o : Option SpecRow) → None ≡ row? o → None ≡ row? (kept q o)
+none_kept q None h = refl
+none_kept q (Some r) h = let z : ◌≡◌ {A = ℕ} 0 1 = cc in absurd (omega arith)
+
 -- the row of a place, kept or not
-pub row_kept : (m : Meaning) (q : Condition) → Sound m → no_select m q ≡ None → (k : ℕ) (w : Row) (b : Bool) → Some w ≡ row_of m k → b ≡ meets q w.values → cond b (Some w) None ≡ row_of (selected m q) k
-row_kept m q s allowed k w b e t = kept_stored q (m.at k) w b (names_in_row m q s allowed) e t
+module _ (m : Meaning) (q : Condition) (sound : Sound m) (allowed : no_select m q ≡ None) (k : ℕ) (r : Option Row) (Tells : Row → Bool → Type 0) (told : (w : Row) (b : Bool) → Tells w b → b ≡ meets q w.values) where
+  pub row_kept : (o : Option Row) → o ≡ row_of m k → MatchOption o (r ≡ None) (λ w. (b : Bool) × Tells w b × (r ≡ then_some b w)) → r ≡ row_of (selected m q) k
+  row_kept None e none = none ∙ none_kept q (m.at k) e
+  row_kept (Some w) e some = some.2 ∙ kept_stored q (m.at k) w some.0 (names_in_row m q sound allowed) e (told w some.0 some.1)

@@ -2,12 +2,6 @@
 use Rattle.std.specs.List.{list_all}
 use Rattle.std.specs.Prelude.{◌≡◌, ℕ, ◌+◌, ◌<◌, ◌≤◌, Bool, ◌&&◌, List, length, ◌≢◌, nat_le, slice_index}
 use Rattle.relation.specs.Bounds.{most_columns}
-use Rattle.relation.specs.Stored.{firsts}
-use Rattle.layers.specs.declared.columns.Columns.{Columns}
-
--- the columns in their order
-abbrev pub chosen : Columns → List ℕ
-chosen s = firsts s.count s.at 0
 
 -- c is one of n columns
 abbrev pub is_column : ℕ → ℕ → Bool
@@ -20,11 +14,6 @@ are_columns n cs = nat_le 1 (length cs) && (nat_le (length cs) most_columns && l
 -- a row has room for the column
 abbrev pub InRow : ℕ → Type 0
 InRow c = (1 ≤ c) × (c ≤ most_columns)
-
--- at most six columns, and a row has room for each
-pub record InRows (s : Columns) : Type 0 where
-  pub few : s.count ≤ most_columns
-  pub each : (i : ℕ) → i < s.count → InRow (slice_index s.at i)
 
 -- the first n of the columns are 1, 2 and so on, and the next one is not
 pub record InPlace (cs : List ℕ) (n : ℕ) : Type 0 where

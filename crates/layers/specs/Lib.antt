@@ -1,6 +1,7 @@
-pub mod Accepted
 pub mod Alike
+pub mod Checks
 pub mod Columns
+pub mod Chosen
 pub mod Selects
 pub mod Projects
 pub mod Windows

@@ -8,6 +8,7 @@ use Rattle.relation.specs.declared.kinds.Kind.{Kind}
 use Rattle.relation.specs.declared.kinds.Kind.TheVariants.{Number, Word}
 use Rattle.relation.specs.declared.conditions.Condition.{Condition}
 use Rattle.relation.specs.declared.refusals.Reason.{Reason}
+use Rattle.relation.specs.declared.refusals.Reason.TheVariants.{Misfit, TooManyPlaces}
 use Rattle.relation.specs.Bounds.{most_columns, most_places}
 use Rattle.relation.specs.Kinds.{same_kind}
 use Rattle.relation.specs.Operations.{meets, picked}
@@ -17,6 +18,7 @@ use Rattle.relation.specs.Rows.{SpecRow}
 use Rattle.source.specs.Meaning.{Meaning, Sound, SoundAt, fits}
 use Rattle.source.proofs.Cells.{cond_some}
 use Rattle.layers.specs.Alike.{same_kinds}
+use Rattle.layers.specs.Checks.{too_many, no_pair}
 use Rattle.layers.specs.Windows.{cut, windowed}
 use Rattle.layers.specs.Selects.{kept, selected}
 use Rattle.layers.specs.Unions.{united, no_union}
@@ -86,15 +88,21 @@ united_at : (a b : Meaning) (k : ℕ) (t : Bool) (r : SpecRow) → nat_lt k a.co
 united_at a b k true r e sa sb same p = moved _ _ a.count (a.count + b.count) k k r refl (λ h. omega arith) (sa.filled k r p)
 united_at a b k false r e sa sb same p = moved _ _ b.count (a.count + b.count) k (k - a.count) r (sym same) (λ h. omega (arith, ltb-false k a.count e)) (sb.filled (k - a.count) r p)
 
+-- two sources under a layer of n places that is not refused
+pub pair_passed : (a b : Meaning) (n : ℕ) → no_pair a b n ≡ None → (a.kinds ≡ b.kinds) × (n ≤ most_places)
+pair_passed a b n allowed =
+    let kinds = passed (same_kinds a.kinds b.kinds) Misfit (too_many n) allowed in
+    let places = passed (nat_le n most_places) TooManyPlaces None kinds.1 in
+    (kinds_same a.kinds b.kinds kinds.0, leb-true n most_places places.0)
+
 pub united_sound : (a b : Meaning) → Sound a → Sound b → no_union a b ≡ None → Sound (united a b)
 united_sound a b sa sb allowed =
-    let kinds = passed (same_kinds a.kinds b.kinds) _ _ allowed in
-    let places = passed (nat_le (a.count + b.count) most_places) _ _ kinds.1 in
+    let both = pair_passed a b (a.count + b.count) allowed in
     record {
       some_kinds = sa.some_kinds;
       few_kinds = sa.few_kinds;
-      few = leb-true (a.count + b.count) most_places places.0;
-      filled = λ k r p. united_at a b k (nat_lt k a.count) r refl sa sb (kinds_same a.kinds b.kinds kinds.0) p;
+      few = both.1;
+      filled = λ k r p. united_at a b k (nat_lt k a.count) r refl sa sb both.0 p;
     }
 
 -- ---- project

@@ -1,73 +1,79 @@
 // Columns chosen from those of a source. Columns count from 1.
-ghost use Rattle.std.specs.Prelude.{◌≡◌, ◌≤◌, true, false, pos, MatchOption};
+ghost use Rattle.std.specs.Prelude.{◌≡◌, ◌≤◌, true, false, length, pos, MatchOption};
+ghost use Rattle.std.specs.List.{list_all};
 ghost use Rattle.relation.specs.Bounds.{most_columns};
+ghost use Rattle.relation.specs.Few.{items};
 ghost use Rattle.relation.specs.Stored.{firsts};
 ghost use Rattle.relation.specs.Operations.{picked};
 ghost use Rattle.source.specs.Meaning.{cell};
-ghost use Rattle.layers.specs.Columns.{chosen, are_columns, InRows, InPlace};
+ghost use Rattle.layers.specs.Columns.{is_column, are_columns, InPlace};
 
 use relation::bounds::MOST_COLUMNS;
+use relation::few::Few;
 
-// Up to six columns, in any order: the first `count` of `at`.
+// Whether each is one of the columns from 1 to `last`.
+fn all_columns(columns: &[usize], last: usize) -> bool
+    ensures { result ≡ list_all (is_column last) columns.now }
+{
+    columns.iter().all(|c| 1 <= *c && *c <= last)
+}
+
+// Up to six columns, in any order.
 #[derive(Clone, Copy)]
-pub struct Columns {
-    pub count: usize,
-    pub at: [usize; 6],
+pub(crate) struct Columns {
+    at: Few<usize, MOST_COLUMNS>,
+    // A row has room for each.
+    ghost in_rows: { list_all (is_column most_columns) (items at) ≡ true },
 }
 
 impl Columns {
+    ghost use Rattle.layers.specs.Chosen.{chosen};
+
     // The columns, if there are one to six and each is one of the columns from 1 to `last`.
-    pub fn new(columns: &[usize], last: usize) -> Option<Columns>
+    pub(crate) fn new(columns: &[usize], last: usize) -> Option<Columns>
+        requires { last ≤ most_columns }
         ensures { MatchOption result (are_columns last columns.now ≡ false) (λ s. (are_columns last columns.now ≡ true) × (chosen s ≡ columns.now)) }
     {
-        let count = columns.len();
-        if count < 1 || count > MOST_COLUMNS {
+        if columns.is_empty() || !all_columns(columns, last) {
             return None;
         }
-        let mut at = [0; 6];
-        for (i, c) in columns.iter().enumerate() {
-            if *c < 1 || *c > last {
-                return None;
-            }
-            at[i] = *c;
-        }
-        Some(Columns { count, at })
+        let at = Few::from_slice(columns, 0)?;
+        Some(Columns { at })
+    }
+
+    pub(crate) fn count(&self) -> usize
+        ensures { result ≡ length (chosen self.now) }
+    {
+        self.at.as_slice().len()
     }
 
     // The column at place c, which counts from 1.
     pub(crate) fn get(&self, c: usize) -> Option<usize>
-        requires { self.now.count ≤ most_columns }
         ensures { result ≡ cell (chosen self.now) c }
     {
-        if c >= 1 && c <= self.count {
-            Some(self.at[c - 1])
-        } else {
-            None
-        }
+        self.at.get(c.checked_sub(1)?)
     }
 
     // The values of the columns, then zeros.
     pub(crate) fn pick(&self, values: &[i64; 6]) -> [i64; 6]
-        requires { InRows self.now }
         ensures { result ≡ firsts most_columns (picked (chosen self.now) values.now) (pos 0) }
     {
         let mut picks = [0; 6];
-        for i in 0..self.count {
-            picks[i] = values[self.at[i] - 1];
+        for (i, c) in self.at.as_slice().iter().enumerate() {
+            picks[i] = values[*c - 1];
         }
         picks
     }
 
     // How many columns from the first on are 1, 2 and so on.
     pub(crate) fn in_place(&self) -> usize
-        requires { self.now.count ≤ most_columns }
         ensures { InPlace (chosen self.now) result }
     {
-        for i in 0..self.count {
-            if self.at[i] != i + 1 {
-                return i;
-            }
-        }
-        self.count
+        let columns = self.at.as_slice();
+        columns
+            .iter()
+            .enumerate()
+            .position(|(i, c)| *c != i + 1)
+            .unwrap_or(columns.len())
     }
 }

@@ -9,25 +9,13 @@ use source::asks::Source;
 pub fn alike(a: Option<Kind>, b: Option<Kind>) -> bool
     ensures { result ≡ alike a b }
 {
-    match (a, b) {
-        (Some(a), Some(b)) => a.same(b),
-        _ => false,
-    }
+    a.is_some() && a == b
 }
 
 // Whether two sources have as many columns, each with the same kind.
 pub fn same_kinds<L: Source, R: Source>(left: &L, right: &R) -> bool
-    requires left { L.Source.accepted left.now }
-    requires right { R.Source.accepted right.now }
     ensures { result ≡ same_kinds (L.Source.meaning left.now).kinds (R.Source.meaning right.now).kinds }
 {
-    if left.columns() != right.columns() {
-        return false;
-    }
-    for c in 0..left.columns() {
-        if !alike(left.kind(c + 1), right.kind(c + 1)) {
-            return false;
-        }
-    }
-    true
+    let columns = left.columns();
+    columns == right.columns() && (1..columns + 1).all(|c| alike(left.kind(c), right.kind(c)))
 }

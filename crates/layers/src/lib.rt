@@ -1,7 +1,8 @@
 // Layers: sources over other sources.
 #![tactic(auto)]
 
-pub mod columns;
+pub mod checks;
+mod columns;
 pub mod kinds;
 pub mod parts;
 pub mod projects;

@@ -1,5 +1,5 @@
 // A source as a whole, or during a period.
-ghost use Rattle.layers.specs.Parts.{part_meaning, PartAccepted, part_sound};
+ghost use Rattle.layers.specs.Parts.{part_meaning, part_sound};
 
 use crate::windows::Window;
 use relation::kinds::Kind;
@@ -15,9 +15,7 @@ pub enum Part<S: Source> {
 impl<S: Source> Source for Part<S> {
     ghost meaning = { part_meaning S.Source.meaning };
 
-    ghost accepted = { PartAccepted S.Source.accepted };
-
-    ghost sound = { part_sound S.Source.meaning S.Source.accepted S.Source.sound };
+    ghost sound = { part_sound S.Source.meaning S.Source.sound };
 
     fn columns(&self) -> usize {
         match self {

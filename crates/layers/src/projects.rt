@@ -1,8 +1,7 @@
 // A project: the rows below with some of their columns, in any order.
-ghost use Rattle.std.specs.Prelude.{◌≡◌};
+ghost use Rattle.std.specs.Prelude.{◌≡◌, None};
 ghost use Rattle.relation.specs.Refusals.{Answers};
-ghost use Rattle.layers.specs.Accepted.{Made};
-ghost use Rattle.layers.specs.Columns.{chosen};
+ghost use Rattle.layers.specs.Chosen.{chosen};
 ghost use Rattle.layers.specs.Projects.{projected, no_project, Projects};
 ghost use Rattle.layers.specs.Soundness.{projected_sound};
 
@@ -16,6 +15,7 @@ use source::asks::Source;
 pub struct Project<S: Source> {
     source: S,
     columns: Columns,
+    ghost allowed: { no_project (S.Source.meaning source) (chosen columns) ≡ None },
 }
 
 impl<S: Source> Project<S> {
@@ -23,25 +23,20 @@ impl<S: Source> Project<S> {
     pub fn new(source: S, columns: &[usize]) -> Result<Project<S>, Refusal>
     where
         S: Drop,
-        requires { S.Source.accepted source }
-        ensures { Answers result (no_project (S.Source.meaning source) columns.now) (λ s. (s.source ≡ source) × (chosen s.columns ≡ columns.now) × Made (S.Source.accepted s.source) (no_project (S.Source.meaning s.source) (chosen s.columns)) × Projects (S.Source.meaning source) columns.now) }
+        ensures { Answers result (no_project (S.Source.meaning source) columns.now) (λ s. (s.source ≡ source) × (chosen s.columns ≡ columns.now) × Projects (S.Source.meaning source) columns.now) }
     {
-        match Columns::new(columns, source.columns()) {
-            Some(columns) => Ok(Project { source, columns }),
-            None => Err(Refusal::plain(Reason::Misfit)),
-        }
+        let columns = Columns::new(columns, source.columns()).ok_or(Reason::Misfit)?;
+        Ok(Project { source, columns })
     }
 }
 
 impl<S: Source> Source for Project<S> {
     ghost meaning = { λ s. projected (S.Source.meaning s.source) (chosen s.columns) };
 
-    ghost accepted = { λ s. Made (S.Source.accepted s.source) (no_project (S.Source.meaning s.source) (chosen s.columns)) };
-
-    ghost sound = { λ s h. projected_sound (S.Source.meaning s.source) (chosen s.columns) (S.Source.sound s.source h.below) h.allowed };
+    ghost sound = { λ s. projected_sound (S.Source.meaning s.source) (chosen s.columns) (S.Source.sound s.source) s.allowed };
 
     fn columns(&self) -> usize {
-        self.columns.count
+        self.columns.count()
     }
 
     fn places(&self) -> usize {

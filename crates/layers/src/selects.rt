@@ -1,9 +1,8 @@
 // A select: the rows below whose tuples meet a condition.
-ghost use Rattle.std.specs.Prelude.{◌≡◌};
+ghost use Rattle.std.specs.Prelude.{◌≡◌, None};
 ghost use Rattle.relation.specs.Refusals.{Answers};
 ghost use Rattle.relation.specs.Operations.{meets};
-ghost use Rattle.layers.specs.Accepted.{Made};
-ghost use Rattle.layers.specs.Selects.{selected, term_kind, in_bounds, no_select, Selects, NamesInRow};
+ghost use Rattle.layers.specs.Selects.{selected, term_kind, in_bounds, no_select, Selects};
 ghost use Rattle.layers.specs.Soundness.{selected_sound};
 
 use crate::kinds::alike;
@@ -15,7 +14,6 @@ use source::asks::Source;
 
 // The kind of a term; none of a column that is missing.
 fn term_kind<S: Source>(source: &S, term: Term) -> Option<Kind>
-    requires { S.Source.accepted source.now }
     ensures { result ≡ term_kind (S.Source.meaning source.now) term }
 {
     match term {
@@ -36,24 +34,11 @@ fn in_bounds(term: Term) -> bool
     }
 }
 
-// Whether the values of a row meet the condition, whose columns are among the six of a row.
-fn meets(condition: &Condition, values: &[i64; 6]) -> bool
-    requires { NamesInRow condition.now }
-    ensures { result ≡ meets condition.now values.now }
-{
-    let x = values[condition.column - 1];
-    let y = match condition.term {
-        Term::Number(value) => value,
-        Term::Word(value) => value,
-        Term::Column(c) => values[c - 1],
-    };
-    condition.sign.compares(x, y)
-}
-
 #[derive(Drop)]
 pub struct Select<S: Source> {
     source: S,
     condition: Condition,
+    ghost allowed: { no_select (S.Source.meaning source) condition ≡ None },
 }
 
 impl<S: Source> Select<S> {
@@ -61,26 +46,35 @@ impl<S: Source> Select<S> {
     pub fn new(source: S, condition: Condition) -> Result<Select<S>, Refusal>
     where
         S: Drop,
-        requires { S.Source.accepted source }
-        ensures { Answers result (no_select (S.Source.meaning source) condition) (λ s. (s.source ≡ source) × (s.condition ≡ condition) × Made (S.Source.accepted s.source) (no_select (S.Source.meaning s.source) s.condition) × Selects (S.Source.meaning source) condition) }
+        ensures { Answers result (no_select (S.Source.meaning source) condition) (λ s. (s.source ≡ source) × (s.condition ≡ condition) × Selects (S.Source.meaning source) condition) }
     {
         let kind = source.kind(condition.column);
         if !alike(kind, term_kind(&source, condition.term)) {
-            return Err(Refusal::plain(Reason::Misfit));
+            return Err(Reason::Misfit.into());
         }
         if !in_bounds(condition.term) {
-            return Err(Refusal::plain(Reason::OutOfBounds));
+            return Err(Reason::OutOfBounds.into());
         }
         Ok(Select { source, condition })
+    }
+
+    // Whether the values of a row below meet the condition.
+    fn keeps(&self, values: &[i64; 6]) -> bool
+        ensures { result ≡ meets self.now.condition values.now }
+    {
+        let x = values[self.condition.column - 1];
+        let y = match self.condition.term {
+            Term::Number(value) | Term::Word(value) => value,
+            Term::Column(c) => values[c - 1],
+        };
+        self.condition.sign.compares(x, y)
     }
 }
 
 impl<S: Source> Source for Select<S> {
     ghost meaning = { λ s. selected (S.Source.meaning s.source) s.condition };
 
-    ghost accepted = { λ s. Made (S.Source.accepted s.source) (no_select (S.Source.meaning s.source) s.condition) };
-
-    ghost sound = { λ s h. selected_sound (S.Source.meaning s.source) s.condition (S.Source.sound s.source h.below) };
+    ghost sound = { λ s. selected_sound (S.Source.meaning s.source) s.condition (S.Source.sound s.source) };
 
     fn columns(&self) -> usize {
         self.source.columns()
@@ -108,12 +102,7 @@ impl<S: Source> Source for Select<S> {
     }
 
     fn row(&self, k: usize) -> Option<Row> {
-        let row = self.source.row(k)?;
-        if meets(&self.condition, &row.values) {
-            Some(row)
-        } else {
-            None
-        }
+        self.source.row(k).filter(|row| self.keeps(&row.values))
     }
 
     fn seek(&self, k: usize, lead: &[i64]) -> usize {

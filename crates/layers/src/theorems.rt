@@ -2,29 +2,21 @@
 ghost use Rattle.layers.specs.Theorems.{Selection, Projection, Restriction, Union};
 
 // On every day a select's set is the selection from the set below.
-pub fn select_is_selection() -> u8
+pub fn select_is_selection()
     ensures { Selection }
-{
-    0
-}
+{}
 
 // On every day a project's set is the projection of the set below.
-pub fn project_is_projection() -> u8
+pub fn project_is_projection()
     ensures { Projection }
-{
-    0
-}
+{}
 
 // On every day a window's set is the set below if its period holds the day, else empty.
-pub fn window_is_restriction() -> u8
+pub fn window_is_restriction()
     ensures { Restriction }
-{
-    0
-}
+{}
 
 // On every day a union's set is the union of the two sets below.
-pub fn union_is_of_both() -> u8
+pub fn union_is_of_both()
     ensures { Union }
-{
-    0
-}
+{}

@@ -1,14 +1,12 @@
 // A union: the places of one source, then those of another with the same kinds.
-ghost use Rattle.std.specs.Prelude.{◌≡◌};
+ghost use Rattle.std.specs.Prelude.{◌≡◌, None};
 ghost use Rattle.relation.specs.Refusals.{Answers};
-ghost use Rattle.layers.specs.Accepted.{Made};
 ghost use Rattle.layers.specs.Unions.{united, no_union, Unites};
 ghost use Rattle.layers.specs.Soundness.{united_sound};
 
-use crate::kinds::same_kinds;
-use relation::bounds::MOST_PLACES;
+use crate::checks::check_pair;
 use relation::kinds::Kind;
-use relation::refusals::{Reason, Refusal};
+use relation::refusals::Refusal;
 use relation::rows::Row;
 use source::asks::Source;
 
@@ -16,6 +14,7 @@ use source::asks::Source;
 pub struct Union<L: Source, R: Source> {
     left: L,
     right: R,
+    ghost allowed: { no_union (L.Source.meaning left) (R.Source.meaning right) ≡ None },
 }
 
 impl<L: Source, R: Source> Union<L, R> {
@@ -24,16 +23,9 @@ impl<L: Source, R: Source> Union<L, R> {
     where
         L: Drop,
         R: Drop,
-        requires left { L.Source.accepted left }
-        requires right { R.Source.accepted right }
-        ensures { Answers result (no_union (L.Source.meaning left) (R.Source.meaning right)) (λ s. (s.left ≡ left) × (s.right ≡ right) × Made (L.Source.accepted s.left × R.Source.accepted s.right) (no_union (L.Source.meaning s.left) (R.Source.meaning s.right)) × Unites (L.Source.meaning left) (R.Source.meaning right)) }
+        ensures { Answers result (no_union (L.Source.meaning left) (R.Source.meaning right)) (λ s. (s.left ≡ left) × (s.right ≡ right) × Unites (L.Source.meaning left) (R.Source.meaning right)) }
     {
-        if !same_kinds(&left, &right) {
-            return Err(Refusal::plain(Reason::Misfit));
-        }
-        if left.places() + right.places() > MOST_PLACES {
-            return Err(Refusal::plain(Reason::TooManyPlaces));
-        }
+        check_pair(&left, &right, left.places() + right.places())?;
         Ok(Union { left, right })
     }
 }
@@ -41,9 +33,7 @@ impl<L: Source, R: Source> Union<L, R> {
 impl<L: Source, R: Source> Source for Union<L, R> {
     ghost meaning = { λ s. united (L.Source.meaning s.left) (R.Source.meaning s.right) };
 
-    ghost accepted = { λ s. Made (L.Source.accepted s.left × R.Source.accepted s.right) (no_union (L.Source.meaning s.left) (R.Source.meaning s.right)) };
-
-    ghost sound = { λ s h. united_sound (L.Source.meaning s.left) (R.Source.meaning s.right) (L.Source.sound s.left h.below.0) (R.Source.sound s.right h.below.1) h.allowed };
+    ghost sound = { λ s. united_sound (L.Source.meaning s.left) (R.Source.meaning s.right) (L.Source.sound s.left) (R.Source.sound s.right) s.allowed };
 
     fn columns(&self) -> usize {
         self.left.columns()

@@ -1,7 +1,6 @@
 // A window: the rows below that share a day with a period, on the shared days.
-ghost use Rattle.std.specs.Prelude.{◌≡◌};
+ghost use Rattle.std.specs.Prelude.{◌≡◌, None};
 ghost use Rattle.relation.specs.Refusals.{Answers};
-ghost use Rattle.layers.specs.Accepted.{Made};
 ghost use Rattle.layers.specs.Windows.{windowed, no_window, Windows};
 ghost use Rattle.layers.specs.Soundness.{windowed_sound};
 
@@ -16,6 +15,7 @@ pub struct Window<S: Source> {
     source: S,
     first: u32,
     end: u32,
+    ghost allowed: { no_window first end ≡ None },
 }
 
 impl<S: Source> Window<S> {
@@ -23,11 +23,10 @@ impl<S: Source> Window<S> {
     pub fn new(source: S, first: u32, end: u32) -> Result<Window<S>, Refusal>
     where
         S: Drop,
-        requires { S.Source.accepted source }
-        ensures { Answers result (no_window first end) (λ s. (s.source ≡ source) × (s.first ≡ first) × (s.end ≡ end) × Made (S.Source.accepted s.source) (no_window s.first s.end) × Windows (S.Source.meaning source) first end) }
+        ensures { Answers result (no_window first end) (λ s. (s.source ≡ source) × (s.first ≡ first) × (s.end ≡ end) × Windows (S.Source.meaning source) first end) }
     {
         if !is_period(first, end) {
-            return Err(Refusal::plain(Reason::NoPeriod));
+            return Err(Reason::NoPeriod.into());
         }
         Ok(Window { source, first, end })
     }
@@ -36,9 +35,7 @@ impl<S: Source> Window<S> {
 impl<S: Source> Source for Window<S> {
     ghost meaning = { λ s. windowed (S.Source.meaning s.source) s.first s.end };
 
-    ghost accepted = { λ s. Made (S.Source.accepted s.source) (no_window s.first s.end) };
-
-    ghost sound = { λ s h. windowed_sound (S.Source.meaning s.source) s.first s.end (S.Source.sound s.source h.below) };
+    ghost sound = { λ s. windowed_sound (S.Source.meaning s.source) s.first s.end (S.Source.sound s.source) };
 
     fn columns(&self) -> usize {
         self.source.columns()
@@ -70,11 +67,7 @@ impl<S: Source> Source for Window<S> {
         let first = self.first.max(row.first);
         let end = self.end.min(row.end);
         let values = row.values;
-        if first < end {
-            Some(Row { first, end, values })
-        } else {
-            None
-        }
+        (first < end).then_some(Row { first, end, values })
     }
 
     fn seek(&self, k: usize, lead: &[i64]) -> usize {

@@ -1,13 +1,16 @@
 -- The texts of numbers and rows, part by part.
-use Rattle.std.proofs.Common.{◌≡◌, ℕ, zero, suc, ◌+◌, ◌<◌, List, [], ◌∷◌, ◌++◌, length, get_or, take, ℤ, pos, negsuc, nat_abs, ◌≤ℤ◌, decimal, sym, refl, ap, ◌∙◌, append_assoc, add-one, arith}
+use Rattle.std.proofs.Common.{◌≡◌, ℕ, zero, suc, ◌+◌, ◌<◌, List, [], ◌∷◌, ◌++◌, length, get_or, take, ℤ, pos, negsuc, nat_abs, ◌≤ℤ◌, decimal, sym, refl, ap, ◌∙◌, subst, append_assoc, add-one, arith}
 use Rattle.std.specs.Fmt.{signed_decimal}
 use Rattle.std.proofs.lemmas.List.{append-nil}
 use Rattle.std.proofs.lemmas.Int.{ints}
 use Rattle.relation.specs.declared.kinds.Kind.{Kind}
 use Rattle.relation.specs.declared.kinds.Kind.TheVariants.{Number}
 use Rattle.relation.specs.Stored.{firsts}
-use Rattle.listing.specs.Pens.{sign}
-use Rattle.listing.specs.Text.{space, value_text, values_text}
+use Rattle.listing.specs.Text.{sign, space, value_text, values_text}
+
+-- a text that is taken is taken as each that is equal to it
+pub taken_as : {S : Type 0} (takes : S → List ℕ → S → Type 0) {p q : S} {s t : List ℕ} → takes p s q → s ≡ t → takes p t q
+taken_as takes {p} {q} h e = subst (λ l. takes p l q) e h
 
 pub signed_parts : (z : ℤ) → sign z ++ decimal (nat_abs z) ≡ signed_decimal z
 signed_parts (pos n) = refl

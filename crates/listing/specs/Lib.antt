@@ -1,3 +1,4 @@
 pub mod Text
-pub mod Pens
+pub mod Sinks
 pub mod Theorems
+pub mod SinkLaws

@@ -1,5 +1,5 @@
 -- A relation as text: a line NAME KINDS ROWS, then a line FROM UNTIL VALUE .. for each row.
-use Rattle.std.specs.Prelude.{◌≡◌, ℕ, ◌<◌, ◌≤◌, List, [], ◌∷◌, ◌++◌, map, length, drop, ℤ, Some, None, Ok, Err, decimal, Option, Result}
+use Rattle.std.specs.Prelude.{◌≡◌, ℕ, ◌<◌, ◌≤◌, List, [], ◌∷◌, ◌++◌, map, length, drop, ℤ, pos, negsuc, Some, None, Ok, Err, decimal, Option, Result}
 use Rattle.std.specs.List.{flat_map}
 use Rattle.std.specs.Fmt.{signed_decimal}
 use Rattle.relation.specs.declared.kinds.Kind.{Kind}
@@ -18,6 +18,11 @@ space = 32
 
 abbrev pub quote : ℕ
 quote = 39
+
+-- the minus sign of a number below 0
+abbrev pub sign : ℤ → List ℕ
+sign (pos n) = []
+sign (negsuc n) = 45 ∷ []
 
 -- ---- the header
 

@@ -2,6 +2,7 @@
 #![tactic(auto)]
 
 pub mod list;
-mod pen;
+mod numbers;
 mod rows;
+mod sinks;
 pub mod theorems;

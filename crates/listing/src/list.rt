@@ -1,13 +1,12 @@
 // A whole list as text.
 ghost use Rattle.std.specs.Prelude.{◌≡◌, map, length};
 ghost use Rattle.std.specs.List.{flat_map};
-ghost use Rattle.relation.specs.Stored.{listed, meant};
-ghost use Rattle.listing.specs.Pens.{Puts, Goes};
+ghost use Rattle.relation.specs.Stored.{meant};
 ghost use Rattle.listing.specs.Text.{letter, header_text, row_text, list_text, Writes};
 
-use crate::pen::{Pass, Pen};
-use crate::rows::kind_at;
-use relation::columns::Kinds;
+use crate::numbers::put_decimal;
+use crate::rows::put_row;
+use crate::sinks::{Output, Room, Sink};
 use relation::kinds::Kind;
 use relation::refusals::{Reason, Refusal};
 use relation::rows::Row;
@@ -22,66 +21,61 @@ fn letter_of(kind: Kind) -> u8
     }
 }
 
-impl<'a> Pen<'a> {
-    // A letter for each kind.
-    fn put_letters(&mut self, kinds: Kinds)
-        ensures { Puts self.old (map letter (listed kinds)) self.new }
-    {
-        for column in 0..kinds.count {
-            self.put(&[letter_of(kind_at(kinds, column))]);
-        }
-    }
-
-    // NAME KINDS ROWS
-    fn put_header(&mut self, name: &[u8], kinds: Kinds, count: usize)
-        ensures { Puts self.old (header_text name.now (listed kinds) count) self.new }
-    {
-        self.put(name);
-        self.put(b" ");
-        self.put_letters(kinds);
-        self.put(b" ");
-        self.put_decimal(count as u64);
-        self.put(b"\n");
-    }
-
-    fn put_rows(&mut self, kinds: Kinds, rows: &[Row])
-        ensures { Puts self.old (flat_map (row_text (listed kinds)) (map (meant kinds.count) rows.now)) self.new }
-    {
-        for row in rows {
-            self.put_row(kinds, row);
-        }
+// A letter for each kind.
+fn put_letters<S: Sink>(sink: &mut S, kinds: &[Kind])
+    ensures { S.takes sink.old (map letter kinds.now) sink.new }
+{
+    for kind in kinds {
+        sink.put(&[letter_of(*kind)]);
     }
 }
 
-// Goes over the whole text, and answers where it ends; none where the output has no room for it.
-fn put_list(pass: Pass, name: &[u8], kinds: Kinds, rows: &[Row], output: &mut [u8]) -> Option<usize>
-    ensures { Goes pass (list_text name.now (listed kinds) (map (meant kinds.count) rows.now)) output.old result output.new }
+// NAME KINDS ROWS
+fn put_header<S: Sink>(sink: &mut S, name: &[u8], kinds: &[Kind], count: usize)
+    ensures { S.takes sink.old (header_text name.now kinds.now count) sink.new }
 {
-    let mut pen = Pen {
-        bytes: output,
-        end: Some(0),
-        pass,
-    };
-    pen.put_header(name, kinds, rows.len());
-    pen.put_rows(kinds, rows);
-    pen.end
+    sink.put(name);
+    sink.put(b" ");
+    put_letters(sink, kinds);
+    sink.put(b" ");
+    put_decimal(sink, count as u64);
+    sink.put(b"\n");
+}
+
+fn put_rows<S: Sink>(sink: &mut S, kinds: &[Kind], rows: &[Row])
+    ensures { S.takes sink.old (flat_map (row_text kinds.now) (map (meant (length kinds.now)) rows.now)) sink.new }
+{
+    for row in rows {
+        put_row(sink, kinds, row);
+    }
+}
+
+// The whole text.
+fn put_list<S: Sink>(sink: &mut S, name: &[u8], kinds: &[Kind], rows: &[Row])
+    ensures { S.takes sink.old (list_text name.now kinds.now (map (meant (length kinds.now)) rows.now)) sink.new }
+{
+    put_header(sink, name, kinds, rows.len());
+    put_rows(sink, kinds, rows);
 }
 
 // Writes the text of the rows: a line `NAME KINDS ROWS`, then a line `FROM UNTIL VALUE ..` for each, in their order.
-// A kind or a value past the sixth is a number, 0. Refused by 12, with nothing written, where the text does not fit whole.
+// A value past the sixth is 0. Refused by 12, with nothing written, where the text does not fit whole.
 pub fn write_list(
     name: &[u8],
-    kinds: Kinds,
+    kinds: &[Kind],
     rows: &[Row],
     output: &mut [u8],
 ) -> Result<usize, Refusal>
-    ensures { Writes (list_text name.now (listed kinds) (map (meant kinds.count) rows.now)) result output.old output.new }
+    ensures { Writes (list_text name.now kinds.now (map (meant (length kinds.now)) rows.now)) result output.old output.new }
 {
-    match put_list(Pass::Measure, name, kinds, rows, output) {
-        None => Err(Refusal::plain(Reason::ShortOutput)),
-        Some(end) => {
-            put_list(Pass::Write, name, kinds, rows, output);
-            Ok(end)
-        }
-    }
+    let mut room = Room(Some(output.len()));
+    put_list(&mut room, name, kinds, rows);
+    let left = room.0.ok_or(Reason::ShortOutput)?;
+    let size = output.len() - left;
+    let mut written = Output {
+        bytes: output,
+        at: 0,
+    };
+    put_list(&mut written, name, kinds, rows);
+    Ok(size)
 }

@@ -1,81 +1,62 @@
 // The line of a row.
-ghost use Rattle.std.specs.Prelude.{◌≡◌, pos, slice_index_or};
-ghost use Rattle.relation.specs.Stored.{listed, meant};
+ghost use Rattle.std.specs.Prelude.{◌≡◌, length, pos, slice_index_or};
+ghost use Rattle.relation.specs.Stored.{meant};
 ghost use Rattle.relation.specs.Values.{word_text};
-ghost use Rattle.listing.specs.Pens.{Puts};
 ghost use Rattle.listing.specs.Text.{spelled, value_text, values_text, row_text};
 
-use crate::pen::Pen;
-use relation::bounds::MOST_COLUMNS;
-use relation::columns::Kinds;
+use crate::numbers::{put_decimal, put_number};
+use crate::sinks::Sink;
 use relation::kinds::Kind;
 use relation::rows::Row;
 use relation::values::word_text;
-
-// The kind of a column, counted from 0: past the last, a number.
-pub(crate) fn kind_at(kinds: Kinds, column: usize) -> Kind
-    ensures { result ≡ slice_index_or kinds.at column Kind.Number }
-{
-    if column < MOST_COLUMNS {
-        kinds.at[column]
-    } else {
-        Kind::Number
-    }
-}
 
 // The value of a column, counted from 0: past the last, 0.
 fn value_at(row: &Row, column: usize) -> i64
     ensures { result ≡ slice_index_or row.now.values column (pos 0) }
 {
-    if column < MOST_COLUMNS {
-        row.values[column]
-    } else {
-        0
+    row.values.get(column).copied().unwrap_or(0)
+}
+
+// The bytes of the word that the value is, if it is one.
+fn put_spelling<S: Sink>(sink: &mut S, value: i64)
+    ensures { S.takes sink.old (spelled (word_text value)) sink.new }
+{
+    if let Some(text) = word_text(value) {
+        sink.put(text.as_slice());
     }
 }
 
-impl<'a> Pen<'a> {
-    // The bytes of the word that the value is, if it is one.
-    fn put_spelling(&mut self, value: i64)
-        ensures { Puts self.old (spelled (word_text value)) self.new }
-    {
-        if let Some(text) = word_text(value) {
-            self.put(text.as_bytes());
+// A number, or a word in single quotes.
+fn put_value<S: Sink>(sink: &mut S, kind: Kind, value: i64)
+    ensures { S.takes sink.old (value_text kind value) sink.new }
+{
+    match kind {
+        Kind::Number => put_number(sink, value),
+        Kind::Word => {
+            sink.put(b"'");
+            put_spelling(sink, value);
+            sink.put(b"'");
         }
     }
+}
 
-    // A number, or a word in single quotes.
-    fn put_value(&mut self, kind: Kind, value: i64)
-        ensures { Puts self.old (value_text kind value) self.new }
-    {
-        match kind {
-            Kind::Number => self.put_number(value),
-            Kind::Word => {
-                self.put(b"'");
-                self.put_spelling(value);
-                self.put(b"'");
-            }
-        }
+// The row's values, a space before each.
+fn put_values<S: Sink>(sink: &mut S, kinds: &[Kind], row: &Row)
+    ensures { S.takes sink.old (values_text kinds.now (meant (length kinds.now) row.now).tuple) sink.new }
+{
+    for (column, kind) in kinds.iter().enumerate() {
+        sink.put(b" ");
+        put_value(sink, *kind, value_at(row, column));
     }
+}
 
-    // The row's values, a space before each.
-    fn put_values(&mut self, kinds: Kinds, row: &Row)
-        ensures { Puts self.old (values_text (listed kinds) (meant kinds.count row.now).tuple) self.new }
-    {
-        for column in 0..kinds.count {
-            self.put(b" ");
-            self.put_value(kind_at(kinds, column), value_at(row, column));
-        }
-    }
-
-    // FROM UNTIL VALUE ..
-    pub(crate) fn put_row(&mut self, kinds: Kinds, row: &Row)
-        ensures { Puts self.old (row_text (listed kinds) (meant kinds.count row.now)) self.new }
-    {
-        self.put_decimal(row.first as u64);
-        self.put(b" ");
-        self.put_decimal(row.end as u64);
-        self.put_values(kinds, row);
-        self.put(b"\n");
-    }
+// FROM UNTIL VALUE ..
+pub(crate) fn put_row<S: Sink>(sink: &mut S, kinds: &[Kind], row: &Row)
+    ensures { S.takes sink.old (row_text kinds.now (meant (length kinds.now) row.now)) sink.new }
+{
+    put_decimal(sink, row.first as u64);
+    sink.put(b" ");
+    put_decimal(sink, row.end as u64);
+    put_values(sink, kinds, row);
+    sink.put(b"\n");
 }

@@ -4,7 +4,6 @@
 #[cfg(test)]
 mod tests {
     use listing::list::write_list;
-    use relation::columns::Kinds;
     use relation::kinds::Kind;
     use relation::refusals::{Reason, Refusal};
     use relation::rows::Row;
@@ -12,14 +11,6 @@ mod tests {
     use std::process::Abort;
 
     const FILLER: u8 = b'#';
-
-    fn kinds(count: usize, first: Kind, second: Kind) -> Kinds {
-        let number = Kind::Number;
-        Kinds {
-            count,
-            at: [first, second, number, number, number, number],
-        }
-    }
 
     fn row(first: u32, end: u32, one: i64, two: i64) -> Row {
         Row {
@@ -35,7 +26,7 @@ mod tests {
     }
 
     // The text is written whole, and the output behind it is as it was.
-    fn gives(rt: &impl Abort, name: &[u8], kinds: Kinds, rows: &[Row], text: &[u8]) {
+    fn gives(rt: &impl Abort, name: &[u8], kinds: &[Kind], rows: &[Row], text: &[u8]) {
         let mut output = [FILLER; 100];
         assert!(rt; text.len() <= 100);
         assert_eq!(rt; write_list(name, kinds, rows, &mut output), Ok(text.len()));
@@ -47,7 +38,7 @@ mod tests {
 
     #[test]
     fn bare(rt: HostRuntime) {
-        let word = kinds(1, Kind::Word, Kind::Number);
+        let word = &[Kind::Word];
         gives(
             &rt,
             b"bare",
@@ -59,18 +50,12 @@ mod tests {
 
     #[test]
     fn no_rows(rt: HostRuntime) {
-        gives(
-            &rt,
-            b"a",
-            kinds(2, Kind::Number, Kind::Word),
-            &[],
-            b"a nw 0\n",
-        );
+        gives(&rt, b"a", &[Kind::Number, Kind::Word], &[], b"a nw 0\n");
     }
 
     #[test]
     fn rows_in_the_order_given(rt: HostRuntime) {
-        let both = kinds(2, Kind::Word, Kind::Number);
+        let both = &[Kind::Word, Kind::Number];
         let rows = [
             row(10, 20, held(b"b_2"), -7),
             row(0, 1000000, held(b"a"), 0),
@@ -86,7 +71,7 @@ mod tests {
 
     #[test]
     fn numbers(rt: HostRuntime) {
-        let two = kinds(2, Kind::Number, Kind::Number);
+        let two = &[Kind::Number; 2];
         gives(
             &rt,
             b"n",
@@ -115,7 +100,7 @@ mod tests {
         gives(
             &rt,
             b"w",
-            kinds(1, Kind::Word, Kind::Number),
+            &[Kind::Word],
             &[row(0, 1, 5, 0)],
             b"w w 1\n0 1 ''\n",
         );
@@ -131,7 +116,7 @@ mod tests {
         gives(
             &rt,
             b"six",
-            kinds(6, Kind::Number, Kind::Number),
+            &[Kind::Number; 6],
             &[all],
             b"six nnnnnn 1\n1 2 1 2 3 4 5 6\n",
         );
@@ -139,7 +124,7 @@ mod tests {
 
     #[test]
     fn fits_exactly_or_not_at_all(rt: HostRuntime) {
-        let word = kinds(1, Kind::Word, Kind::Number);
+        let word = &[Kind::Word];
         let rows = [row(6, 10, held(b"v1"), 0)];
         let mut exact = [FILLER; 19];
         assert_eq!(rt; write_list(b"bare", word, &rows, &mut exact), Ok(19));

@@ -5,7 +5,6 @@ use Rattle.std.specs.List.{AllByRecursion as AllOf}
 use Rattle.std.proofs.lemmas.Bool.{cond-true, cond-false, and_parts, and_from, leb-true, le-leb, ltb-true, lt-ltb, cases_Bool, true≢false}
 use Rattle.relation.specs.declared.kinds.Kind.{Kind}
 use Rattle.relation.specs.declared.kinds.Kind.TheVariants as kind
-use Rattle.relation.specs.declared.columns.Kinds.{Kinds}
 use Rattle.relation.specs.declared.rows.Row.{Row}
 use Rattle.relation.specs.declared.refusals.Reason.{Reason}
 use Rattle.relation.specs.declared.refusals.Reason.TheVariants as reason
@@ -13,7 +12,7 @@ use Rattle.relation.specs.Bounds.{most_columns, end_of_days, smallest_number}
 use Rattle.relation.specs.Rows.{SpecRow}
 use Rattle.relation.specs.Values.{is_word, word}
 use Rattle.words.specs.Name.{is_name}
-use Rattle.words.specs.Kinds.{kind_of, is_kinds, kept, kinds_of}
+use Rattle.words.specs.Kinds.{kind_of, is_kinds, kinds_of}
 use Rattle.takers.specs.Take.{Text, ◌then◌, Val, number_val, word_val, take_value, RowText, take_row}
 use Rattle.takers.specs.Writing.{Name, WritesValue, WritesValues}
 use Rattle.takers.proofs.Options.{same_some, absent, then_some, cond_some, then_is}
@@ -23,20 +22,18 @@ use Rattle.lists.specs.ListLanguage.{HeaderSays, HeaderRefused, ReadsHeader, Wri
 
 -- ---- the header
 
-pub header_said : (ws : List Text) (h : Text × Kinds) → HeaderSays ws h → header_line ws ≡ Ok h
+pub header_said : (ws : List Text) (h : Text × List Kind) → HeaderSays ws h → header_line ws ≡ Ok h
 header_said ws h s =
-    let ks = s.0 in
-    let w = s.1.0 in
-    ap header_line s.1.1
-    ∙ cond-true (is_kinds w) _ _ (kinds_are w ks s.1.2).0
-    ∙ cond-true (is_name h.0) _ _ s.2
-    ∙ ap (λ o. or_else reason.Misfit o (λ ks. Ok (h.0, ks))) (kinds_is w ks s.1.2 s.3)
-    ∙ ap (λ k. Ok (h.0, k)) s.4
+    let w = s.0.0 in
+    ap header_line s.0.1
+    ∙ cond-true (is_kinds w) _ _ (kinds_are w h.1 s.0.2).0
+    ∙ cond-true (is_name h.0) _ _ s.1
+    ∙ ap (λ o. or_else reason.Misfit o (λ ks. Ok (h.0, ks))) (kinds_is w h.1 s.0.2 s.2)
 
 module _ (n k : Text) where
-  of_kinds : (o : Option Kinds) → kinds_of k ≡ o → is_kinds k ≡ true → Name n → MatchResult (or_else reason.Misfit o (λ ks. Ok (n, ks))) (HeaderSays (n ∷ k ∷ [])) (HeaderRefused (n ∷ k ∷ []))
-  of_kinds None e t m = (n, map kind_of k, (k, refl, kinds_told k t), m, λ le. absent (kept (map kind_of k)) (sym e ∙ kinds_is k (map kind_of k) (kinds_told k t) le))
-  of_kinds (Some ks) e t m = let h = kinds_of_lem k ks e in (h.0, (k, refl, h.1), m, h.2, h.3)
+  of_kinds : (o : Option (List Kind)) → kinds_of k ≡ o → is_kinds k ≡ true → Name n → MatchResult (or_else reason.Misfit o (λ ks. Ok (n, ks))) (HeaderSays (n ∷ k ∷ [])) (HeaderRefused (n ∷ k ∷ []))
+  of_kinds None e t m = (n, map kind_of k, (k, refl, kinds_told k t), m, λ le. absent (map kind_of k) (sym e ∙ kinds_is k (map kind_of k) (kinds_told k t) le))
+  of_kinds (Some ks) e t m = let h = kinds_of_lem k ks e in ((k, refl, h.0), m, h.1)
 
   no_letters : is_kinds k ≡ false → HeaderRefused (n ∷ k ∷ []) reason.Form
   no_letters f m ks w =
@@ -45,7 +42,7 @@ module _ (n k : Text) where
 
   two_words_lem : MatchResult (header_line (n ∷ k ∷ [])) (HeaderSays (n ∷ k ∷ [])) (HeaderRefused (n ∷ k ∷ []))
   two_words_lem =
-      let C : Result (Text × Kinds) Reason → Type 0 = λ r. MatchResult r (HeaderSays (n ∷ k ∷ [])) (HeaderRefused (n ∷ k ∷ [])) in
+      let C : Result (Text × List Kind) Reason → Type 0 = λ r. MatchResult r (HeaderSays (n ∷ k ∷ [])) (HeaderRefused (n ∷ k ∷ [])) in
       ⊎_elim
       (λ t. subst C (sym (cond-true (is_kinds k) _ _ t))
       (⊎_elim
@@ -66,7 +63,7 @@ refusal_of : {A : Type 0} (P : A → Type 0) (Q : Reason → Type 0) (r : Result
 refusal_of P Q (Ok x) h = tt
 refusal_of P Q (Err e) h = h
 
-pub header_reads : (ws : List Text) (r : Result (Text × Kinds) Reason) → r ≡ header_line ws → ReadsHeader ws r
+pub header_reads : (ws : List Text) (r : Result (Text × List Kind) Reason) → r ≡ header_line ws → ReadsHeader ws r
 header_reads ws r e =
     let o = subst (λ q. MatchResult q (HeaderSays ws) (HeaderRefused ws)) (sym e) (header_outcome ws) in
     ((λ h. ((λ s. e ∙ header_said ws h s), λ q. subst (λ v. MatchResult v (HeaderSays ws) (HeaderRefused ws)) q o)), refusal_of (HeaderSays ws) (HeaderRefused ws) r o)

@@ -1,4 +1,3 @@
-pub mod Fitting
-pub mod Timing
 pub mod Language
 pub mod Gathering
+pub mod Fitting

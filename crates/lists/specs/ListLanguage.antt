@@ -3,7 +3,6 @@ use Rattle.std.specs.Prelude.{◌≡◌, ◌≤◌, ◌↔◌, List, [], ◌∷�
 use Rattle.std.specs.List.{AllByRecursion as AllOf}
 use Rattle.relation.specs.declared.kinds.Kind.{Kind}
 use Rattle.relation.specs.declared.kinds.Kind.TheVariants as kind
-use Rattle.relation.specs.declared.columns.Kinds.{Kinds}
 use Rattle.relation.specs.declared.rows.Row.{Row}
 use Rattle.relation.specs.declared.refusals.Reason.{Reason}
 use Rattle.relation.specs.declared.refusals.Reason.TheVariants as reason
@@ -11,7 +10,6 @@ use Rattle.relation.specs.Bounds.{most_columns}
 use Rattle.relation.specs.Rows.{SpecRow, Period}
 use Rattle.relation.specs.Stored.{stored}
 use Rattle.relation.specs.Values.{Number, word}
-use Rattle.words.specs.Kinds.{kept}
 use Rattle.takers.specs.Take.{Text, Val, number_val, word_val}
 use Rattle.takers.specs.Writing.{WritesNumber, Name, WritesValues, WritesKinds}
 
@@ -21,8 +19,8 @@ use Rattle.takers.specs.Writing.{WritesNumber, Name, WritesValues, WritesKinds}
 abbrev pub WritesHeader : List Text → Text → List Kind → Type 0
 WritesHeader ws n ks = (w : Text) × (ws ≡ n ∷ w ∷ []) × WritesKinds w ks
 
-abbrev pub HeaderSays : List Text → Text × Kinds → Type 0
-HeaderSays ws h = (ks : List Kind) × WritesHeader ws h.0 ks × Name h.0 × (length ks ≤ most_columns) × (kept ks ≡ h.1)
+abbrev pub HeaderSays : List Text → Text × List Kind → Type 0
+HeaderSays ws h = WritesHeader ws h.0 h.1 × Name h.0 × (length h.1 ≤ most_columns)
 
 abbrev pub HeaderRefused : List Text → Reason → Type 0
 HeaderRefused ws reason.Form = (n : Text) (ks : List Kind) → WritesHeader ws n ks → ⊥
@@ -41,8 +39,8 @@ HeaderRefused ws reason.TooManyPlaces = ⊥
 HeaderRefused ws reason.SlipMisfit = ⊥
 
 -- r is what the words say, and the reason why they say nothing
-abbrev pub ReadsHeader : List Text → Result (Text × Kinds) Reason → Type 0
-ReadsHeader ws r = ((h : Text × Kinds) → HeaderSays ws h ↔ (r ≡ Ok h)) × IfErr r (HeaderRefused ws)
+abbrev pub ReadsHeader : List Text → Result (Text × List Kind) Reason → Type 0
+ReadsHeader ws r = ((h : Text × List Kind) → HeaderSays ws h ↔ (r ≡ Ok h)) × IfErr r (HeaderRefused ws)
 
 -- ---- a row
 

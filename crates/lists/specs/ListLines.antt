@@ -1,11 +1,12 @@
 -- What the lines of a list say, and for which reason a line is refused.
 use Rattle.std.specs.Prelude.{Bool, true, cond, ◌&&◌, List, [], ◌∷◌, length, ℤ, pos, Some, None, Ok, Err, Option, Result, int_le, int_lt, nat_le, unsigned_abs}
+use Rattle.std.specs.List.{list_all}
 use Rattle.relation.specs.declared.kinds.Kind.{Kind}
 use Rattle.relation.specs.declared.kinds.Kind.TheVariants as kind
-use Rattle.relation.specs.declared.columns.Kinds.{Kinds}
 use Rattle.relation.specs.declared.rows.Row.{Row}
 use Rattle.relation.specs.declared.refusals.Reason.{Reason}
 use Rattle.relation.specs.declared.refusals.Reason.TheVariants as reason
+use Rattle.relation.specs.Few.{items}
 use Rattle.relation.specs.Bounds.{most_columns, end_of_days, smallest_number, largest_number}
 use Rattle.relation.specs.Stored.{firsts, stored}
 use Rattle.relation.specs.Values.{word_value}
@@ -21,8 +22,8 @@ or_else e (Some x) f = f x
 
 -- ---- the header
 
-abbrev pub says_header : Header → Text × Kinds
-says_header h = (h.name.now, h.kinds)
+abbrev pub says_header : Header → Text × List Kind
+says_header h = (h.name.now, items h.kinds)
 
 abbrev pub two_words : List Text → Option (Text × Text)
 two_words [] = None
@@ -31,14 +32,14 @@ two_words (n ∷ k ∷ []) = Some (n, k)
 two_words (n ∷ k ∷ w ∷ ws) = None
 
 -- what two words say
-abbrev pub header_of : Text × Text → Result (Text × Kinds) Reason
+abbrev pub header_of : Text × Text → Result (Text × List Kind) Reason
 header_of p =
     cond (is_kinds p.1)
     (cond (is_name p.0) (or_else reason.Misfit (kinds_of p.1) (λ ks. Ok (p.0, ks))) (Err reason.Name))
     (Err reason.Form)
 
 -- NAME KINDS
-abbrev pub header_line : List Text → Result (Text × Kinds) Reason
+abbrev pub header_line : List Text → Result (Text × List Kind) Reason
 header_line ws = or_else reason.Form (two_words ws) header_of
 
 -- ---- the values of a row
@@ -77,8 +78,7 @@ abbrev pub bounded_word : Text → Bool
 bounded_word w = bounded (value_of w)
 
 abbrev pub all_bounded : List Text → Bool
-all_bounded [] = true
-all_bounded (w ∷ ws) = bounded_word w && all_bounded ws
+all_bounded ws = list_all bounded_word ws
 
 -- ---- a row's line
 

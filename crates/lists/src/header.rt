@@ -41,10 +41,8 @@ fn header_of<'a>(name: &'a [u8], letters: &'a [u8]) -> Result<Header<'a>, Reason
     if !is_name(name) {
         return Err(Reason::Name);
     }
-    match read_kinds(letters) {
-        None => Err(Reason::Misfit),
-        Some(kinds) => Ok(Header { name, kinds }),
-    }
+    let kinds = read_kinds(letters).ok_or(Reason::Misfit)?;
+    Ok(Header { name, kinds })
 }
 
 // Reads `NAME KINDS`.
@@ -52,8 +50,6 @@ pub fn read_header<'a>(line: &'a [u8]) -> Result<Header<'a>, Reason>
     ensures value { result_map_both says_header (λ e. e) result ≡ header_line (texts (words_of line.now)) }
     ensures reads { ReadsHeader (texts (words_of line.now)) (result_map_both says_header (λ e. e) result) }
 {
-    match two_words(line) {
-        None => Err(Reason::Form),
-        Some((name, letters)) => header_of(name, letters),
-    }
+    let (name, letters) = two_words(line).ok_or(Reason::Form)?;
+    header_of(name, letters)
 }

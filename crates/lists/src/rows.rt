@@ -1,15 +1,15 @@
 // The line of a row.
 ghost use Rattle.std.specs.Prelude.{◌≡◌};
-ghost use Rattle.relation.specs.Stored.{listed};
 ghost use Rattle.words.specs.Words.{words as words_of};
 ghost use Rattle.words.specs.Rest.{texts};
 ghost use Rattle.takers.specs.Take.{says_row};
-ghost use Rattle.lists.specs.ListLines.{is_period, row_of, row_line};
+ghost use Rattle.lists.specs.ListLines.{is_period, row_of, row_line, padded};
 ghost use Rattle.lists.specs.ListLanguage.{ReadsRow};
+ghost use Rattle.relation.specs.Few.{items};
 
-use crate::values::{all_bounded, read_values};
-use relation::bounds::END_OF_DAYS;
-use relation::columns::Kinds;
+use crate::values::{Values, all_bounded, read_values};
+use relation::bounds::{END_OF_DAYS, MOST_COLUMNS};
+use relation::kinds::Kind;
 use relation::refusals::Reason;
 use relation::rows::Row;
 use takers::tails::{RowParts, take_row};
@@ -21,13 +21,21 @@ fn is_period(from: i64, until: i64) -> bool
     0 <= from && from < until && until <= END_OF_DAYS as i64
 }
 
-// The row that a line's parts say, the values as the kinds ask.
-pub fn row_of(parts: RowParts, kinds: Kinds) -> Result<Row, Reason>
-    ensures { result ≡ row_of (listed kinds) (says_row parts.entry) }
+// The values as a row stores them: unused ones are 0.
+fn stored_values(values: &Values) -> [i64; MOST_COLUMNS]
+    ensures { result ≡ padded (items values.now) }
 {
-    let Some(values) = read_values(parts.values, kinds) else {
-        return Err(Reason::Misfit);
-    };
+    let values = values.as_slice();
+    let mut stored = [0; MOST_COLUMNS];
+    stored[..values.len()].copy_from_slice(values);
+    stored
+}
+
+// The row that a line's parts say, the values as the kinds ask.
+pub fn row_of(parts: RowParts, kinds: &[Kind]) -> Result<Row, Reason>
+    ensures { result ≡ row_of kinds.now (says_row parts.entry) }
+{
+    let values = read_values(parts.values, kinds).ok_or(Reason::Misfit)?;
     if !is_period(parts.from, parts.until) {
         return Err(Reason::NoPeriod);
     }
@@ -37,18 +45,15 @@ pub fn row_of(parts: RowParts, kinds: Kinds) -> Result<Row, Reason>
     Ok(Row {
         first: parts.from as u32,
         end: parts.until as u32,
-        values,
+        values: stored_values(&values),
     })
 }
 
 // Reads `FROM UNTIL VALUE ..`.
-pub fn read_row(line: &[u8], kinds: Kinds) -> Result<Row, Reason>
-    ensures value { result ≡ row_line (listed kinds) (texts (words_of line.now)) }
-    ensures reads { ReadsRow (listed kinds) (texts (words_of line.now)) result }
+pub fn read_row(line: &[u8], kinds: &[Kind]) -> Result<Row, Reason>
+    ensures value { result ≡ row_line kinds.now (texts (words_of line.now)) }
+    ensures reads { ReadsRow kinds.now (texts (words_of line.now)) result }
 {
-    let mut words = Words::new(line);
-    match take_row(&mut words) {
-        None => Err(Reason::Form),
-        Some(parts) => row_of(parts, kinds),
-    }
+    let parts = take_row(&mut Words::new(line)).ok_or(Reason::Form)?;
+    row_of(parts, kinds)
 }

@@ -1,5 +1,4 @@
 // A list as text: a line `NAME KINDS ROWS`, then a line `FROM UNTIL VALUE ..` for each row.
-use relation::columns::Kinds;
 use relation::kinds::Kind;
 use relation::rows::Row;
 use relation::values::word_text;
@@ -7,11 +6,11 @@ use std::fmt;
 
 // The letters of a relation's kinds.
 #[derive(Clone, Copy)]
-pub struct KindLetters(pub Kinds);
+pub struct KindLetters<'a>(pub &'a [Kind]);
 
-impl fmt::Display for KindLetters {
+impl fmt::Display for KindLetters<'_> {
     fn fmt<W: fmt::Write>(&self, f: &mut fmt::Formatter<W>) -> fmt::Result {
-        for kind in self.0.at.iter().take(self.0.count) {
+        for kind in self.0 {
             f.write_char(match kind {
                 Kind::Number => 'n',
                 Kind::Word => 'w',
@@ -36,7 +35,7 @@ impl fmt::Display for ValueText {
             Kind::Word => {
                 f.write_char('\'')?;
                 if let Some(text) = word_text(value) {
-                    for b in text.as_bytes() {
+                    for b in text.as_slice() {
                         f.write_char(*b as char)?;
                     }
                 }
@@ -48,18 +47,17 @@ impl fmt::Display for ValueText {
 
 // The line of a row, without its end.
 #[derive(Clone, Copy)]
-pub struct RowLine {
+pub struct RowLine<'a> {
     pub row: Row,
-    pub kinds: Kinds,
+    pub kinds: &'a [Kind],
 }
 
-impl fmt::Display for RowLine {
+impl fmt::Display for RowLine<'_> {
     fn fmt<W: fmt::Write>(&self, f: &mut fmt::Formatter<W>) -> fmt::Result {
         let first = self.row.first;
         let end = self.row.end;
         write!(f, "{first} {end}")?;
-        let columns = self.kinds.at.iter().zip(self.row.values.iter());
-        for (kind, value) in columns.take(self.kinds.count) {
+        for (kind, value) in self.kinds.iter().zip(self.row.values.iter()) {
             let text = ValueText {
                 kind: *kind,
                 value: *value,
@@ -70,13 +68,12 @@ impl fmt::Display for RowLine {
     }
 }
 
-// A whole list: the first `count` of the rows.
+// A whole list.
 #[derive(Clone, Copy)]
 pub struct ListText<'a> {
     pub name: &'a [u8],
-    pub kinds: Kinds,
+    pub kinds: &'a [Kind],
     pub rows: &'a [Row],
-    pub count: usize,
 }
 
 impl fmt::Display for ListText<'_> {
@@ -86,9 +83,9 @@ impl fmt::Display for ListText<'_> {
         }
         let kinds = self.kinds;
         let letters = KindLetters(kinds);
-        let count = self.count;
+        let count = self.rows.len();
         writeln!(f, " {letters} {count}")?;
-        for row in self.rows.iter().take(count) {
+        for row in self.rows {
             let line = RowLine { row: *row, kinds };
             writeln!(f, "{line}")?;
         }

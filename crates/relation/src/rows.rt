@@ -5,7 +5,7 @@ ghost use Rattle.relation.specs.Stored.{blank_row, stored, meant};
 use crate::bounds::MOST_COLUMNS;
 
 // A tuple with the days from `first` up to, and without, `end`. Unused values are 0.
-#[derive(Clone, Copy, Debug)]
+#[derive(Clone, Copy, PartialEq, Eq, Debug)]
 pub struct Row {
     pub first: u32,
     pub end: u32,

@@ -2,10 +2,9 @@
 ghost use Rattle.std.specs.Prelude.{◌≡◌, ◌≤◌, length, Some, None, MatchResult, nat_lt};
 ghost use Rattle.words.specs.Lines.{lines as lines_of};
 ghost use Rattle.grammar.specs.Said.{says};
-ghost use Rattle.script.specs.Faults.{outside, within, stands, step as stepped, fault, most_lines, refusal};
+ghost use Rattle.script.specs.Faults.{stands, step as stepped, fault, most_lines, refusal};
 ghost use Rattle.script.specs.Scripts.{Script, Refused};
 
-use crate::loads::Load;
 use crate::script::CheckedScript;
 use grammar::forms::read_line;
 use grammar::lines::Line;
@@ -17,87 +16,55 @@ pub const MOST_BYTES: usize = 16_384;
 
 pub const MOST_LINES: usize = 256;
 
-fn only_outside(before: Load, after: Load) -> Option<Load>
-    ensures { result ≡ outside before after }
-{
-    match before {
-        Load::Closed => Some(after),
-        Load::Open(_) => None,
-    }
-}
-
-fn only_within(before: Load, after: Load) -> Option<Load>
-    ensures { result ≡ within before after }
-{
-    match before {
-        Load::Closed => None,
-        Load::Open(_) => Some(after),
-    }
-}
-
-// Where the line after line `n` stands, if line `n` may stand where it does.
-fn next_load(n: usize, before: Load, line: Line) -> Option<Load>
-    ensures { result ≡ stands n before (says line.entry) }
+// The line at which the load began that is open after line `n`, if line `n` may stand where it does.
+fn next_load(n: usize, load: Option<usize>, line: Line) -> Option<Option<usize>>
+    ensures { result ≡ stands n load (says line.entry) }
 {
     match line {
-        Line::Skip => Some(before),
-        Line::Load(_, _) => only_outside(before, Load::Open(n)),
-        Line::Row(_) => only_within(before, before),
-        Line::End => only_within(before, Load::Closed),
-        Line::Drop(_) => only_outside(before, Load::Closed),
-        Line::Show(_) => only_outside(before, Load::Closed),
-        Line::Query(_, _) => only_outside(before, Load::Closed),
+        Line::Skip => Some(load),
+        Line::Load(_, _) => load.is_none().then_some(Some(n)),
+        Line::Row(_) => load.is_some().then_some(load),
+        Line::End => load.is_some().then_some(None),
+        Line::Drop(_) | Line::Show(_) | Line::Query(_, _) => load.is_none().then_some(None),
     }
 }
 
-fn step(n: usize, before: Load, line: &[u8]) -> Option<Load>
-    ensures { result ≡ stepped n before line.now }
+fn step(n: usize, load: Option<usize>, line: &[u8]) -> Option<Option<usize>>
+    ensures { result ≡ stepped n load line.now }
 {
-    next_load(n, before, read_line(line)?)
+    next_load(n, load, read_line(line)?)
 }
 
 // Whether a text has more lines than a script may have.
 fn many_lines(text: &[u8]) -> bool
     ensures { result ≡ nat_lt most_lines (length (lines_of text.now)) }
 {
-    let mut lines = Lines::new(text);
-    let mut n: usize = 0;
-    while let Some(_line) = lines.next() {
-        if n == MOST_LINES {
-            return true;
-        }
-        n += 1;
-    }
-    false
+    Lines::new(text).nth(MOST_LINES).is_some()
 }
 
 // The first bad line, or else the line of a load that is not ended.
 fn first_fault(text: &[u8]) -> Option<usize>
     requires { length (lines_of text.now) ≤ most_lines }
-    ensures { result ≡ fault 1 Load.Closed (lines_of text.now) }
+    ensures { result ≡ fault 1 None (lines_of text.now) }
 {
-    let mut lines = Lines::new(text);
-    let mut n: usize = 1;
-    let mut load = Load::Closed;
-    while let Some(line) = lines.next() {
-        let Some(after) = step(n, load, line) else {
-            return Some(n);
+    let mut load = None;
+    for (i, line) in Lines::new(text).enumerate() {
+        let Some(after) = step(i + 1, load, line) else {
+            return Some(i + 1);
         };
         load = after;
-        n += 1;
     }
-    match load {
-        Load::Closed => None,
-        Load::Open(m) => Some(m),
-    }
+    load
 }
 
-fn fill<'a>(text: &'a [u8], into: &mut CheckedScript<'a>) -> Result<(), Refusal>
+// Checks a text, and if it is a script, puts it where the caller holds one.
+pub fn check<'a>(text: &'a [u8], into: &mut CheckedScript<'a>) -> Result<(), Refusal>
     ensures answer { MatchResult result (λ _. refusal text.now ≡ None) (λ e. refusal text.now ≡ Some e) }
     ensures held { MatchResult result (λ _. into.new.text.now ≡ text.now) (λ _. into.new ≡ into.old) }
+    ensures language { MatchResult result (λ _. Script text.now) (Refused text.now) }
 {
     if text.len() > MOST_BYTES || many_lines(text) {
-        return Err(Refusal::plain(Reason::ScriptSize));
+        return Err(Reason::ScriptSize.into());
     }
     if let Some(line) = first_fault(text) {
         return Err(Refusal {
@@ -108,13 +75,4 @@ fn fill<'a>(text: &'a [u8], into: &mut CheckedScript<'a>) -> Result<(), Refusal>
     }
     *into = CheckedScript { text };
     Ok(())
-}
-
-// Checks a text, and if it is a script, puts it where the caller holds one.
-pub fn check<'a>(text: &'a [u8], into: &mut CheckedScript<'a>) -> Result<(), Refusal>
-    ensures answer { MatchResult result (λ _. refusal text.now ≡ None) (λ e. refusal text.now ≡ Some e) }
-    ensures held { MatchResult result (λ _. into.new.text.now ≡ text.now) (λ _. into.new ≡ into.old) }
-    ensures language { MatchResult result (λ _. Script text.now) (Refused text.now) }
-{
-    fill(text, into)
 }

@@ -2,6 +2,5 @@
 #![tactic(auto)]
 
 pub mod check;
-pub mod loads;
 pub mod script;
 pub mod text;

@@ -2,5 +2,6 @@
 #![tactic(auto)]
 
 pub mod asks;
+pub mod filled;
 pub mod tables;
 pub mod theorems;

@@ -6,14 +6,13 @@ use Rattle.std.proofs.lemmas.Bool.{cond-true, and_parts, and_from, leb-true, le-
 use Rattle.std.proofs.lemmas.Bool.Decides.{nat_tests}
 use Rattle.relation.specs.declared.kinds.Kind.{Kind}
 use Rattle.relation.specs.declared.kinds.Kind.TheVariants as kind
-use Rattle.relation.specs.declared.columns.Kinds.{Kinds}
 use Rattle.relation.specs.Bounds.{most_columns}
 use Rattle.words.specs.declared.tokens.Position.{Position}
 use Rattle.words.specs.declared.tokens.Position.TheVariants as position
 use Rattle.relation.specs.declared.conditions.Sign.{Sign}
 use Rattle.relation.specs.declared.conditions.Sign.TheVariants.{Equal, NotEqual, Less, LessEqual, Greater, GreaterEqual}
 use Rattle.words.specs.Token.{Tok, name, numeral, quoted, column, sign, token}
-use Rattle.words.specs.Kinds.{kind_byte, kind_of, is_kinds, kept, kinds_of}
+use Rattle.words.specs.Kinds.{kind_byte, kind_of, is_kinds, kinds_of}
 use Rattle.takers.specs.Take.{Text, ◌then◌, Val, number_val, word_val, name_in, number_in, value_in, column_in, sign_in, is_equal, take_token, take_name, take_number, value_of, take_value, take_column, take_sign, take_equals, nothing, is_value, all_values, RowText, take_row}
 use Rattle.takers.specs.Writing.{WritesNumber, Name, WritesValue, WritesValues, WritesColumn, spelled_sign, letter, WritesKinds}
 use Rattle.takers.proofs.Options.{same_some, absent, then_some, cond_some, then_is}
@@ -190,20 +189,20 @@ kinds_are w ks h =
     let some = h.1 in
     (ap is_kinds h.0 ∙ and_from _ _ (le-leb _ _ (omega arith)) a.0, ap (map kind_of) h.0 ∙ a.1)
 
-pub kinds_of_lem : (w : Text) (ks : Kinds) → kinds_of w ≡ Some ks → (is : List Kind) × WritesKinds w is × (length is ≤ most_columns) × (kept is ≡ ks)
+pub kinds_of_lem : (w : Text) (ks : List Kind) → kinds_of w ≡ Some ks → WritesKinds w ks × (length ks ≤ most_columns)
 kinds_of_lem w ks e =
-    let h = cond_some (is_kinds w && leb (length w) most_columns) (kept (map kind_of w)) ks e in
+    let h = cond_some (is_kinds w && leb (length w) most_columns) (map kind_of w) ks e in
     let p = and_parts (is_kinds w) _ h.0 in
     let n = length-map w kind_of in
-    let few = leb-true _ _ p.1 in
-    (map kind_of w, kinds_told w p.0, omega arith, h.1)
+    let le = leb-true _ _ p.1 in
+    subst (λ ks. WritesKinds w ks × (length ks ≤ most_columns)) h.1 (kinds_told w p.0, omega arith)
 
-pub kinds_is : (w : Text) (is : List Kind) → WritesKinds w is → length is ≤ most_columns → kinds_of w ≡ Some (kept is)
-kinds_is w is h le =
-    let a = kinds_are w is h in
+pub kinds_is : (w : Text) (ks : List Kind) → WritesKinds w ks → length ks ≤ most_columns → kinds_of w ≡ Some ks
+kinds_is w ks h le =
+    let a = kinds_are w ks h in
     let n = length-map w kind_of in
-    let m = ap length a.1 in
-    cond-true (is_kinds w && leb (length w) most_columns) _ _ (and_from _ _ a.0 (le-leb _ _ (omega arith))) ∙ ap (λ l. Some (kept l)) a.1
+    let same = ap length a.1 in
+    cond-true (is_kinds w && leb (length w) most_columns) _ _ (and_from _ _ a.0 (le-leb _ _ (omega arith))) ∙ ap (λ l. Some l) a.1
 
 -- ---- the end
 

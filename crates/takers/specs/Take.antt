@@ -1,6 +1,7 @@
 -- Reading a line's words from the front: each taker gives what it read and the words that are left.
 use Rattle.std.specs.Prelude.{ℕ, Bool, true, false, cond, ◌&&◌, List, [], ◌∷◌, length, ℤ, is_some, Some, None, Option, ◌==◌, nat_le, slice_index}
-use Rattle.relation.specs.declared.columns.Kinds.{Kinds}
+use Rattle.std.specs.List.{list_all}
+use Rattle.relation.specs.declared.kinds.Kind.{Kind}
 use Rattle.takers.specs.declared.tails.RowParts.{RowParts}
 use Rattle.words.specs.declared.tokens.Position.{Position}
 use Rattle.words.specs.declared.tokens.Position.TheVariants as position
@@ -97,7 +98,7 @@ take_sign ws = take_token position.Name ws then (λ t. sign_in t.0 then (λ s. S
 abbrev pub take_equals : List Text → Option (List Text)
 take_equals ws = take_sign ws then (λ s. cond (is_equal s.0) (Some s.1) None)
 
-abbrev pub take_kinds : List Text → Option (Kinds × List Text)
+abbrev pub take_kinds : List Text → Option (List Kind × List Text)
 take_kinds [] = None
 take_kinds (w ∷ ws) = kinds_of w then (λ ks. Some (ks, ws))
 
@@ -115,8 +116,7 @@ is_value w = is_some (value_of w)
 
 -- every word that is left is a value
 abbrev pub all_values : List Text → Bool
-all_values [] = true
-all_values (w ∷ ws) = is_value w && all_values ws
+all_values ws = list_all is_value ws
 
 -- what a row's line says: its days, and the words that are its values
 pub record RowText : Type 0 where

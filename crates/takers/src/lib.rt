@@ -3,6 +3,7 @@
 
 ghost use Rattle.std.specs.Prelude.{◌≡◌, ℕ, List, ◌∷◌, IfSome, Some, None, MatchOption};
 ghost use Rattle.std.specs.Option.{option_map};
+ghost use Rattle.relation.specs.Few.{items};
 ghost use Rattle.words.specs.Rest.{rest, words_left};
 ghost use Rattle.words.specs.Token.{means, token};
 ghost use Rattle.takers.specs.Take.{take_token, name_in, number_in, value_in, column_in, sign_in, means_value, value_of, take_name, take_number, take_value, take_column, take_sign, take_equals, take_kinds, nothing};
@@ -15,15 +16,14 @@ use words::tokens::{Placed, Position, Token, Value, read_token};
 
 pub mod tails;
 
+// Each kind of token has a taker of its own: numbers and columns are both integers, so that a type parameter could not
+// say which of them is taken.
 fn as_name<'a>(token: Token<'a>) -> Option<&'a [u8]>
     ensures { option_map (λ x. x.now) result ≡ name_in (means token.entry) }
 {
     match token {
         Token::Name(name) => Some(name),
-        Token::Number(_) => None,
-        Token::Quoted(_) => None,
-        Token::Column(_) => None,
-        Token::Sign(_) => None,
+        _ => None,
     }
 }
 
@@ -40,11 +40,9 @@ fn as_value<'a>(token: Token<'a>) -> Option<Value<'a>>
     ensures { option_map means_value result ≡ value_in (means token.entry) }
 {
     match token {
-        Token::Name(_) => None,
         Token::Number(z) => Some(Value::Number(z)),
         Token::Quoted(q) => Some(Value::Word(q)),
-        Token::Column(_) => None,
-        Token::Sign(_) => None,
+        _ => None,
     }
 }
 
@@ -89,60 +87,48 @@ pub fn take_token<'a>(words: &mut Words<'a>, position: Position) -> Option<Place
 pub fn take_name<'a>(words: &mut Words<'a>) -> Option<&'a [u8]>
     ensures { MatchOption result (take_name (rest words.old) ≡ None) (λ n. take_name (rest words.old) ≡ Some (n.now, rest words.new)) }
 {
-    let placed = take_token(words, Position::Name)?;
-    as_name(placed.token)
+    as_name(take_token(words, Position::Name)?.token)
 }
 
 pub fn take_number<'a>(words: &mut Words<'a>) -> Option<i64>
     ensures { MatchOption result (take_number (rest words.old) ≡ None) (λ z. take_number (rest words.old) ≡ Some (z, rest words.new)) }
 {
-    let placed = take_token(words, Position::Name)?;
-    as_number(placed.token)
+    as_number(take_token(words, Position::Name)?.token)
 }
 
 pub fn take_value<'a>(words: &mut Words<'a>) -> Option<Value<'a>>
     ensures { MatchOption result (take_value (rest words.old) ≡ None) (λ v. take_value (rest words.old) ≡ Some (means_value v, rest words.new)) }
 {
-    let placed = take_token(words, Position::Name)?;
-    as_value(placed.token)
+    as_value(take_token(words, Position::Name)?.token)
 }
 
 pub fn take_column<'a>(words: &mut Words<'a>) -> Option<usize>
     ensures { MatchOption result (take_column (rest words.old) ≡ None) (λ k. take_column (rest words.old) ≡ Some (k, rest words.new)) }
 {
-    let placed = take_token(words, Position::Column)?;
-    as_column(placed.token)
+    as_column(take_token(words, Position::Column)?.token)
 }
 
 pub fn take_sign<'a>(words: &mut Words<'a>) -> Option<Sign>
     ensures { MatchOption result (take_sign (rest words.old) ≡ None) (λ s. take_sign (rest words.old) ≡ Some (s, rest words.new)) }
 {
-    let placed = take_token(words, Position::Name)?;
-    as_sign(placed.token)
+    as_sign(take_token(words, Position::Name)?.token)
 }
 
 pub fn take_equals<'a>(words: &mut Words<'a>) -> Option<()>
     ensures { MatchOption result (take_equals (rest words.old) ≡ None) (λ _. take_equals (rest words.old) ≡ Some (rest words.new)) }
 {
-    match take_sign(words)? {
-        Sign::Equal => Some(()),
-        Sign::NotEqual | Sign::Less | Sign::LessEqual | Sign::Greater | Sign::GreaterEqual => None,
-    }
+    (take_sign(words)? == Sign::Equal).then_some(())
 }
 
 pub fn take_kinds<'a>(words: &mut Words<'a>) -> Option<Kinds>
-    ensures { MatchOption result (take_kinds (rest words.old) ≡ None) (λ k. take_kinds (rest words.old) ≡ Some (k, rest words.new)) }
+    ensures { MatchOption result (take_kinds (rest words.old) ≡ None) (λ ks. take_kinds (rest words.old) ≡ Some (items ks, rest words.new)) }
 {
-    let word = words.next()?;
-    read_kinds(word.text)
+    read_kinds(words.next()?.text)
 }
 
 // Nothing, if nothing follows.
 pub fn take_end<'a>(words: &mut Words<'a>) -> Option<()>
     ensures { result ≡ nothing (rest words.old) }
 {
-    match words.next() {
-        None => Some(()),
-        Some(_) => None,
-    }
+    words.next().is_none().then_some(())
 }

@@ -17,11 +17,10 @@ pub struct RowParts<'a> {
 }
 
 // Whether a word is left.
-pub fn some_left(words: Words) -> bool
+pub fn some_left(mut words: Words) -> bool
     ensures { result ≡ nat_le 1 (length (rest words.entry)) }
 {
-    let mut left = words;
-    left.next().is_some()
+    words.next().is_some()
 }
 
 fn is_value(word: &[u8]) -> bool
@@ -31,16 +30,10 @@ fn is_value(word: &[u8]) -> bool
 }
 
 // Whether all words that are left are values.
-pub fn all_values(words: Words) -> bool
+pub fn all_values(mut words: Words) -> bool
     ensures { result ≡ all_values (rest words.entry) }
 {
-    let mut left = words;
-    while let Some(word) = left.next() {
-        if !is_value(word.text) {
-            return false;
-        }
-    }
-    true
+    words.all(|word| is_value(word.text))
 }
 
 // Reads FROM UNTIL VALUE .., with one value or more.
@@ -50,36 +43,24 @@ pub fn take_row<'a>(words: &mut Words<'a>) -> Option<RowParts<'a>>
     let from = take_number(words)?;
     let until = take_number(words)?;
     let values = *words;
-    if some_left(values) && all_values(values) {
-        Some(RowParts {
-            from,
-            until,
-            values,
-        })
-    } else {
-        None
-    }
+    (some_left(values) && all_values(values)).then_some(RowParts {
+        from,
+        until,
+        values,
+    })
 }
 
 fn is_comment(word: &[u8]) -> bool
     ensures { result ≡ (slice_index word.now 0 == 35) }
 {
-    if word.len() == 0 {
-        return false;
-    }
-    match word[0] as char {
-        '#' => true,
-        _ => false,
-    }
+    matches!(word, [b'#', ..])
 }
 
 // Whether a line has no word, or its first word begins with #.
 pub fn is_blank(line: &[u8]) -> bool
     ensures { result ≡ is_blank (texts (words_of line.now)) }
 {
-    let mut words = Words::new(line);
-    match words.next() {
-        None => true,
-        Some(first) => is_comment(first.text),
-    }
+    Words::new(line)
+        .next()
+        .is_none_or(|first| is_comment(first.text))
 }

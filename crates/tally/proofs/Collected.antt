@@ -1,9 +1,9 @@
 -- What is known of a source's collected list: it is not longer than the source, and its rows keep to the source's kinds.
 use Rattle.std.proofs.Common.{◌≡◌, ℕ, zero, suc, ◌-◌, ◌<◌, ◌≤◌, Bool, true, ◌&&◌, ltb, List, [], ◌∷◌, map, length, get_or, take, pos, is_some, Some, None, Option, sym, refl, ap, ◌∙◌, subst, arith}
 use lib.ListN.{length-map}
-use Rattle.std.specs.List.{list_all, AllByRecursion as AllOf}
+use Rattle.std.specs.List.{slice_get, list_all, AllByRecursion as AllOf}
 use Rattle.std.proofs.ByRecursion.{All-append, All-get_or, All-from_get_or}
-use Rattle.std.proofs.lemmas.List.{get_or-map, get_or-take, take_at, take-take}
+use Rattle.std.proofs.lemmas.List.{take_at, take-take}
 use Rattle.std.proofs.lemmas.Bool.{and_parts, ltb-true, false≢true}
 use Rattle.relation.specs.declared.kinds.Kind.{Kind}
 use Rattle.relation.specs.declared.kinds.Kind.TheVariants.{Number, Word}
@@ -18,22 +18,21 @@ use Rattle.relation.proofs.Every.{every_at}
 use Rattle.relation.proofs.Fewest.{fewest}
 use Rattle.relation.proofs.Held as held
 use Rattle.relation.proofs.KindsTold.{kinds_told}
-use Rattle.source.specs.Meaning.{Meaning, Sound, nth, cell, kind_of, fits, filled?, rows_below, rows_of, day_set}
+use Rattle.source.specs.Meaning.{Meaning, Sound, cell, kind_of, fits, filled?, rows_below, rows_of, day_set}
 use Rattle.source.proofs.Places.{day_set_of_places}
 use Rattle.tree.specs.declared.Node.{Node}
-use Rattle.collect.specs.Areas.{no_row}
 use Rattle.collect.specs.Collects.{counted, LeavesList}
 use Rattle.collect.proofs.Indexed.{no_spec, any_from_index}
 use Rattle.tallies.specs.declared.rules.Tally.{Tally}
 use Rattle.tallies.specs.declared.rules.Tally.TheVariants.{Count, Sum, Min, Max}
 use Rattle.cuts.specs.Amounts.{Within}
-use Rattle.tally.specs.Results.{measure_of, Narrow}
+use Rattle.tally.specs.Results.{Narrow}
 use Rattle.tally.specs.Tallying.{is_number, measurable, fitting}
 use Rattle.tally.proofs.Measuring.{column_stored}
 
 -- ---- columns that are there
 
-nth_within : {X : Type 0} (xs : List X) (i : ℕ) → is_some (nth xs i) ≡ true → i < length xs
+nth_within : {X : Type 0} (xs : List X) (i : ℕ) → is_some (slice_get xs i) ≡ true → i < length xs
 nth_within [] i h = absurd (false≢true h)
 nth_within (x ∷ xs) zero h = omega arith
 nth_within (x ∷ xs) (suc i) h = let l = nth_within xs i h in omega arith
@@ -47,7 +46,7 @@ number_there None h = h
 number_there (Some k) h = refl
 
 -- the value of a column of kind n is a number
-number_nth : (ks : List Kind) (t : Tuple) (i : ℕ) → fits ks t ≡ true → is_number (nth ks i) ≡ true → in_kind Number (get_or t i (pos 0)) ≡ true
+number_nth : (ks : List Kind) (t : Tuple) (i : ℕ) → fits ks t ≡ true → is_number (slice_get ks i) ≡ true → in_kind Number (get_or t i (pos 0)) ≡ true
 number_nth [] t i f h = absurd (false≢true h)
 number_nth (k ∷ ks) [] i f h = absurd (false≢true f)
 number_nth (Number ∷ ks) (z ∷ zs) zero f h = (and_parts (in_kind Number z) (fits ks zs) f).0
@@ -88,7 +87,7 @@ module _ (m : Meaning) (sound : Sound m) (w : Tally) (by : List ℕ) (fit : fitt
   pub narrow : Narrow w
   narrow = narrow_if w is_measurable
 
-  within_if : (v : Tally) → measurable m v ≡ true → (x : SpecRow) → fits m.kinds x.tuple ≡ true → Within (measure_of v) (stored x)
+  within_if : (v : Tally) → measurable m v ≡ true → (x : SpecRow) → fits m.kinds x.tuple ≡ true → Within v (stored x)
   within_if Count h x f = tt
   within_if (Sum c) h x f =
       let few = in_row c (number_there (kind_of m c) h) in
@@ -96,7 +95,7 @@ module _ (m : Meaning) (sound : Sound m) (w : Tally) (by : List ℕ) (fit : fitt
   within_if (Min c) h x f = tt
   within_if (Max c) h x f = tt
 
-  pub within : (x : SpecRow) → fits m.kinds x.tuple ≡ true → Within (measure_of w) (stored x)
+  pub within : (x : SpecRow) → fits m.kinds x.tuple ≡ true → Within w (stored x)
   within x f = within_if w is_measurable x f
 
 -- ---- the list
@@ -113,7 +112,7 @@ module _ (m : Meaning) (sound : Sound m) (xs : List SpecRow) (lists : Lists xs (
   pub few_listed : length xs ≤ length (rows_of m)
   few_listed = fewest xs (rows_of m) lists.canonical (all_rows Period m (λ k r e. (sound.filled k r e).period) m.count) lists.sets
 
-  pub period_listed : (i : ℕ) → i < length xs → Period (get_or xs i no_spec)
+  period_listed : (i : ℕ) → i < length xs → Period (get_or xs i no_spec)
   period_listed i lt = All-get_or Period xs i no_spec lt lists.canonical.periods
 
   pub fits_listed : (i : ℕ) → i < length xs → fits m.kinds (get_or xs i no_spec).tuple ≡ true
@@ -131,8 +130,3 @@ module _ (f : ℕ → TupleSet) (rows after : List Row) (index last : List Node)
   left_front =
       let h = left.part in
       sym (take-take n (counted rows) after few) ∙ ap (take n) h.rows_are ∙ take_at (map stored h.list) _ n (length-map h.list stored ∙ sym h.count)
-
-  pub left_at : (i : ℕ) → i < n → get_or after i no_row ≡ stored (get_or left.part.list i no_spec)
-  left_at i lt =
-      let count = left.part.count in
-      sym (get_or-take n after i no_row lt) ∙ ap (λ ws. get_or ws i no_row) left_front ∙ get_or-map stored left.part.list i no_spec no_row (omega arith)

@@ -22,7 +22,7 @@ use Rattle.tallies.proofs.Grouped.{set_tallied}
 use Rattle.tallies.proofs.RowsTallied.{held_in_has, rows_tallied}
 use Rattle.cuts.specs.Amounts.{amount}
 use Rattle.cuts.specs.Groups.{tuple_by}
-use Rattle.tally.specs.Results.{measure_of, Narrow, in_group, Says, Results}
+use Rattle.tally.specs.Results.{Narrow, in_group, Says, Results}
 use Rattle.tally.proofs.Measuring.{picked_stored, in_group_stored, amount_stored}
 
 pub any_to_map : {X Y : Type 0} (f : X → Y) (P : Y → Type 0) (xs : List X) → Any (λ x. P (f x)) xs → Any P (map f xs)
@@ -39,7 +39,7 @@ module _ (c : ℕ) (few : c ≤ most_columns) (w : Row) (t : Tuple) (long : leng
   tidy_stored = is ∙ ap (λ s. firsts most_columns s (pos 0)) (sym tuple_stored)
 
 module _ (w : Tally) (narrow : Narrow w) (by : List ℕ) (columns : AllOf (λ c. c ≤ most_columns) by) (few : length by < most_columns)
-    (xs : List SpecRow) (disjoint : Disjoint xs) (made : List Row) (results : Results (measure_of w) by (map stored xs) made) where
+    (xs : List SpecRow) (disjoint : Disjoint xs) (made : List Row) (results : Results w by (map stored xs) made) where
   -- the tuple that the group of t gives on day d
   abbrev given : ℕ → Tuple → Tuple
   given d t = picked by t ++ (value w t (group by (on xs d) t) ∷ [])
@@ -51,11 +51,11 @@ module _ (w : Tally) (narrow : Narrow w) (by : List ℕ) (columns : AllOf (λ c.
   given_long d t = omega (arith, length-append (picked by t) (value w t (group by (on xs d) t) ∷ []), length-map by (λ c. column c t))
 
   -- what a result row says of the group of x
-  said : (x : SpecRow) (d : ℕ) → Member (on xs d) x.tuple → tuple_by (stored x) by (amount (measure_of w) (in_group by (stored x) d (map stored xs))) ≡ firsts most_columns (given d x.tuple) (pos 0)
+  said : (x : SpecRow) (d : ℕ) → Member (on xs d) x.tuple → tuple_by (stored x) by (amount w (in_group by (stored x) d (map stored xs))) ≡ firsts most_columns (given d x.tuple) (pos 0)
   said x d m =
       let t = x.tuple in
       ap₂ (λ ps a. firsts most_columns (ps ++ (a ∷ [])) (pos 0)) (picked_stored by t columns)
-      (ap (amount (measure_of w)) (in_group_stored by columns x d xs) ∙ amount_stored w narrow t (held_in by t d xs) (held_in_has by t d xs m) ∙ sym (rows_tallied w by xs d t disjoint m))
+      (ap (amount w) (in_group_stored by columns x d xs) ∙ amount_stored w narrow t (held_in by t d xs) (held_in_has by t d xs m) ∙ sym (rows_tallied w by xs d t disjoint m))
 
   row_at : (i : ℕ) → i < length xs → get_or (map stored xs) i no_row ≡ stored (get_or xs i no_spec)
   row_at i lt = get_or-map stored xs i no_spec no_row lt
@@ -64,10 +64,10 @@ module _ (w : Tally) (narrow : Narrow w) (by : List ℕ) (columns : AllOf (λ c.
   member_at i d lt h = (day_set xs d (get_or xs i no_spec).tuple).1 (any_from_index (λ r. (r.tuple ≡ (get_or xs i no_spec).tuple) × Holds r d) xs no_spec i lt (refl, h))
 
   -- the values of a row that says what the group of row i comes to
-  values_said : (i d : ℕ) (u : Row) → i < length xs → Holds (get_or xs i no_spec) d → Says (measure_of w) by (map stored xs) d (get_or (map stored xs) i no_row) u → u.values ≡ firsts most_columns (given d (get_or xs i no_spec).tuple) (pos 0)
+  values_said : (i d : ℕ) (u : Row) → i < length xs → Holds (get_or xs i no_spec) d → Says w by (map stored xs) d (get_or (map stored xs) i no_row) u → u.values ≡ firsts most_columns (given d (get_or xs i no_spec).tuple) (pos 0)
   values_said i d u lt h s =
       s.1
-      ∙ ap (λ g. tuple_by g by (amount (measure_of w) (in_group by g d (map stored xs)))) (row_at i lt)
+      ∙ ap (λ g. tuple_by g by (amount w (in_group by g d (map stored xs)))) (row_at i lt)
       ∙ said (get_or xs i no_spec) d (member_at i d lt h)
 
   -- a row of the tallied rows that a result row speaks of

@@ -16,8 +16,8 @@ use Rattle.tallies.specs.declared.rules.Tally.TheVariants.{Count, Sum, Min, Max}
 use Rattle.tallies.specs.Tallies as tallies
 use Rattle.tallies.specs.Tallies.{held_in, row_total, row_best}
 use Rattle.tallies.proofs.RowsTallied.{tuples, Picks, min_picks, max_picks, best_from_first}
-use Rattle.cuts.specs.Amounts.{value, total, amount}
-use Rattle.tally.specs.Results.{measure_of, Narrow, in_group}
+use Rattle.cuts.specs.Amounts.{valued, total, amount}
+use Rattle.tally.specs.Results.{Narrow, in_group}
 
 -- ---- columns of stored tuples
 
@@ -52,18 +52,18 @@ in_group_stored by few x d xs =
 
 -- ---- what they come to
 
-total_stored : (c : ℕ) → c ≤ most_columns → (xs : List SpecRow) → total (map (value (c - 1)) (map stored xs)) ≡ row_total c xs
+total_stored : (c : ℕ) → c ≤ most_columns → (xs : List SpecRow) → total (map (valued c) (map stored xs)) ≡ row_total c xs
 total_stored c few [] = refl
 total_stored c few (x ∷ xs) = ap₂ (λ (y z : ℤ). y +ℤ z) (column_stored c x.tuple few) (total_stored c few xs)
 
-folded_stored : (f : ℤ → ℤ → ℤ) (c : ℕ) → c ≤ most_columns → (v u : ℤ) → v ≡ u → (xs : List SpecRow) → fold f v (map (value (c - 1)) (map stored xs)) ≡ row_best f c u xs
+folded_stored : (f : ℤ → ℤ → ℤ) (c : ℕ) → c ≤ most_columns → (v u : ℤ) → v ≡ u → (xs : List SpecRow) → fold f v (map (valued c) (map stored xs)) ≡ row_best f c u xs
 folded_stored f c few v u e [] = e
-folded_stored f c few v u e (x ∷ xs) = folded_stored f c few (f v (value (c - 1) (stored x))) (f u (column c x.tuple)) (ap₂ f e (column_stored c x.tuple few)) xs
+folded_stored f c few v u e (x ∷ xs) = folded_stored f c few (f v (valued c (stored x))) (f u (column c x.tuple)) (ap₂ f e (column_stored c x.tuple few)) xs
 
-best_stored : (f : ℤ → ℤ → ℤ) → Picks f → (c : ℕ) → c ≤ most_columns → (t : Tuple) (x : SpecRow) (xs : List SpecRow) → Member (tuples (x ∷ xs)) t → fold f (value (c - 1) (stored x)) (map (value (c - 1)) (map stored xs)) ≡ row_best f c (column c t) (x ∷ xs)
-best_stored f law c few t x xs m = folded_stored f c few (value (c - 1) (stored x)) (column c x.tuple) (column_stored c x.tuple few) xs ∙ sym (best_from_first f law c t x xs m)
+best_stored : (f : ℤ → ℤ → ℤ) → Picks f → (c : ℕ) → c ≤ most_columns → (t : Tuple) (x : SpecRow) (xs : List SpecRow) → Member (tuples (x ∷ xs)) t → fold f (valued c (stored x)) (map (valued c) (map stored xs)) ≡ row_best f c (column c t) (x ∷ xs)
+best_stored f law c few t x xs m = folded_stored f c few (valued c (stored x)) (column c x.tuple) (column_stored c x.tuple few) xs ∙ sym (best_from_first f law c t x xs m)
 
-pub amount_stored : (w : Tally) → Narrow w → (t : Tuple) (xs : List SpecRow) → Member (tuples xs) t → amount (measure_of w) (map stored xs) ≡ tallies.amount w t xs
+pub amount_stored : (w : Tally) → Narrow w → (t : Tuple) (xs : List SpecRow) → Member (tuples xs) t → amount (w) (map stored xs) ≡ tallies.amount w t xs
 amount_stored Count few t xs m = ap pos (length-map xs stored)
 amount_stored (Sum c) few t xs m = total_stored c few xs
 amount_stored (Min c) few t [] m = absurd m

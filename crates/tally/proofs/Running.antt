@@ -1,11 +1,11 @@
 -- The groups of gathered rows are tallied one after the other, from turn to turn.
 use Rattle.std.proofs.Common.{◌≡◌, ℕ, ◌+◌, ◌-◌, ◌*◌, ◌<◌, ◌≤◌, Bool, true, false, cond, ◌&&◌, ◌⊎◌, List, [], ◌∷◌, ◌++◌, length, get_or, take, drop, pos, filter, sym, refl, ap, ◌∙◌, subst, ap₂, inl, inr, arith}
+use borrow.Rule.Slice.PartMut.{put_mid}
 use Rattle.std.specs.List.{between, AllByRecursion as AllOf}
 use Rattle.std.proofs.lemmas.List.Edits.{split_between, length-between, get_or-between}
 use Rattle.std.proofs.lemmas.List.Elements.{filter-append}
-use Rattle.std.proofs.ByRecursion.{All-from_get_or}
-use Rattle.std.proofs.lemmas.List.{append-nil, ext_get_or, get_or-take, get_or-drop, length-drop, length-take, take-take}
-use Rattle.std.proofs.lemmas.Slice.{between_is}
+use Rattle.std.proofs.ByRecursion.{All-get_or, All-from_get_or}
+use Rattle.std.proofs.lemmas.List.{append-nil, get_or_append_left, get_or-append_right, get_or-take, get_or-drop, length-drop, length-take, length-take-le}
 use Rattle.std.proofs.lemmas.Bool.{cases_lt, cases_Bool, and_right}
 use Rattle.relation.specs.declared.rows.Row.{Row}
 use Rattle.relation.specs.Bounds.{most_columns}
@@ -15,9 +15,9 @@ use Rattle.relation.specs.Rows.{Period, Holds, holds}
 use Rattle.relation.specs.Stored.{firsts}
 use Rattle.relation.proofs.TupleSets.{equal_decides}
 use Rattle.collect.specs.Areas.{no_row, bare}
-use Rattle.cuts.specs.declared.measures.Measure.{Measure}
+use Rattle.tallies.specs.declared.rules.Tally.{Tally}
 use Rattle.cuts.specs.Amounts.{held, amount}
-use Rattle.cuts.specs.Groups.{tuple_by, HeldIn, GivesBy}
+use Rattle.cuts.specs.Groups.{tuple_by, HeldIn, Gives}
 use Rattle.tally.specs.Gathered.{Alike, Together, Run}
 use Rattle.tally.specs.Results.{in_group, Says, Results}
 
@@ -42,66 +42,60 @@ and_true : (a b : Bool) → b ≡ true → (a && b) ≡ a
 and_true true b e = e
 and_true false b e = refl
 
+-- ---- the area behind what has been made, lent and given back
+
+module _ (out part : List Row) (made : ℕ) (le : made ≤ length out) where
+  abbrev pub given : List Row
+  given = put_mid made (length out - made) out part
+
+  pub given_still : (k : ℕ) → k < made → get_or given k no_row ≡ get_or out k no_row
+  given_still k lt = get_or_append_left (take made out) _ no_row k (omega (arith, length-take-le made out le)) ∙ get_or-take made out k no_row lt
+
+  pub given_new : (j : ℕ) → j < length part → get_or given (made + j) no_row ≡ get_or part j no_row
+  given_new j lt =
+      let at : made + j - made ≡ j = omega arith in
+      get_or-append_right (take made out) _ made (made + j) no_row (length-take-le made out le) (omega arith)
+      ∙ ap (λ k. get_or (part ++ drop (length out - made) (drop made out)) k no_row) at
+      ∙ get_or_append_left part _ no_row j lt
+
 -- ---- the state
 
--- the rows ws, of which there are n, stand in front; of those before `from` the groups are tallied into the rows from n up to `end`
-pub record Running (m : Measure) (by : List ℕ) (n : ℕ) (ws rows : List Row) (from end : ℕ) : Type 0 where
-  pub reached : from ≤ n
-  pub behind : n ≤ end
-  pub few : end ≤ n + 2 * from
-  pub front : take n rows ≡ ws
-  pub fresh : (i : ℕ) → i < from → from < n → Alike by (get_or ws i no_row) (get_or ws from no_row) → ⊥
-  pub periods : (k : ℕ) → n ≤ k → k < end → Period (bare (get_or rows k no_row))
-  pub sound : (k d : ℕ) → n ≤ k → k < end → Holds (bare (get_or rows k no_row)) d → (i : ℕ) × ((i < n) × (Holds (bare (get_or ws i no_row)) d × Says m by ws d (get_or ws i no_row) (get_or rows k no_row)))
-  pub whole : (i d : ℕ) → i < from → Holds (bare (get_or ws i no_row)) d → (k : ℕ) × ((n ≤ k) × (k < end) × Says m by ws d (get_or ws i no_row) (get_or rows k no_row))
+-- of the rows ws the groups of those before `from` are tallied into the first `made` rows of `out`
+pub record Running (m : Tally) (by : List ℕ) (ws out : List Row) (from made : ℕ) : Type 0 where
+  pub reached : from ≤ length ws
+  pub few : made ≤ 2 * from
+  pub fresh : (i : ℕ) → i < from → from < length ws → Alike by (get_or ws i no_row) (get_or ws from no_row) → ⊥
+  pub periods : (k : ℕ) → k < made → Period (bare (get_or out k no_row))
+  pub sound : (k d : ℕ) → k < made → Holds (bare (get_or out k no_row)) d → (i : ℕ) × ((i < length ws) × (Holds (bare (get_or ws i no_row)) d × Says m by ws d (get_or ws i no_row) (get_or out k no_row)))
+  pub whole : (i d : ℕ) → i < from → Holds (bare (get_or ws i no_row)) d → (k : ℕ) × ((k < made) × Says m by ws d (get_or ws i no_row) (get_or out k no_row))
 
-pub running_none : (m : Measure) (by : List ℕ) (n : ℕ) (rows : List Row) → Running m by n (take n rows) rows 0 n
-running_none m by n rows = record {
+pub running_none : (m : Tally) (by : List ℕ) (ws out : List Row) → Running m by ws out 0 0
+running_none m by ws out = record {
   reached = omega arith;
-  behind = omega arith;
   few = omega arith;
-  front = refl;
   fresh = λ i a b e. omega arith;
-  periods = λ k a b. absurd (omega arith);
-  sound = λ k d a b h. absurd (omega arith);
+  periods = λ k a. absurd (omega arith);
+  sound = λ k d a h. absurd (omega arith);
   whole = λ i d a h. absurd (omega arith);
 }
 
-module _ (m : Measure) (by : List ℕ) (n : ℕ) (ws rows : List Row) (from end : ℕ) (a : Running m by n ws rows from end) (size : length ws ≡ n) where
-  pub row_kept : (i : ℕ) → i < n → get_or rows i no_row ≡ get_or ws i no_row
-  row_kept i lt = sym (get_or-take n rows i no_row lt) ∙ ap (λ t. get_or t i no_row) a.front
-
+module _ (m : Tally) (by : List ℕ) (ws out : List Row) (from made : ℕ) (a : Running m by ws out from made) where
   -- at the end
-  pub running_all : n ≤ from → end ≤ length rows → Results m by ws (between n end rows)
+  pub running_all : length ws ≤ from → made ≤ length out → Results m by ws (take made out)
   running_all done room =
-      let long : length (between n end rows) ≡ end - n = length-between rows n end room in
-      let b = a.behind in
-      let r = a.reached in
-      let at : (k : ℕ) → k < length (between n end rows) → get_or (between n end rows) k no_row ≡ get_or rows (n + k) no_row = λ k lt. get_or-between rows n end k no_row (omega arith) in
+      let long : length (take made out) ≡ made = length-take-le made out room in
+      let at : (k : ℕ) → k < made → get_or (take made out) k no_row ≡ get_or out k no_row = λ k lt. get_or-take made out k no_row lt in
       record {
-        periods = λ k lt. subst (λ w. Period (bare w)) (sym (at k lt)) (a.periods (n + k) (omega arith) (omega arith));
+        periods = λ k lt. subst (λ w. Period (bare w)) (sym (at k (omega arith))) (a.periods k (omega arith));
         sound = λ k d lt h.
-            let s = a.sound (n + k) d (omega arith) (omega arith) (subst (λ w. Holds (bare w) d) (at k lt) h) in
-            (s.0, (omega (arith, s.1.0), (s.1.1.0, subst (Says m by ws d (get_or ws s.0 no_row)) (sym (at k lt)) s.1.1.1)));
+            let s = a.sound k d (omega arith) (subst (λ w. Holds (bare w) d) (at k (omega arith)) h) in
+            (s.0, (s.1.0, (s.1.1.0, subst (Says m by ws d (get_or ws s.0 no_row)) (sym (at k (omega arith))) s.1.1.1)));
         whole = λ i d lt h.
             let s = a.whole i d (omega arith) h in
-            let k = s.0 - n in
-            let is : n + k ≡ s.0 = omega (arith, s.1.0) in
-            let l : k < length (between n end rows) = omega (arith, s.1.0, s.1.1) in
-            (k, (l, subst (Says m by ws d (get_or ws i no_row)) (sym (at k l ∙ ap (λ j. get_or rows j no_row) is)) s.1.2));
+            (s.0, (omega (arith, s.1.0, long), subst (Says m by ws d (get_or ws i no_row)) (sym (at s.0 s.1.0)) s.1.1));
       }
 
-  module _ (together : Together by ws) (lt : from < n) (upto : ℕ) (run : Run by ws from upto) where
-    upto_within : upto ≤ n
-    upto_within = omega (arith, run.within)
-
-    -- the rows of the run, in the area and in front
-    run_kept : between from upto rows ≡ between from upto ws
-    run_kept =
-        between_is rows from upto
-        ∙ ap (drop from) (sym (take-take upto n rows upto_within) ∙ ap (take upto) a.front)
-        ∙ sym (between_is ws from upto)
-
+  module _ (together : Together by ws) (lt : from < length ws) (upto : ℕ) (run : Run by ws from upto) where
     -- whether a row is of g's group
     other_group : (v g : Row) (d : ℕ) → (Alike by v g → ⊥) → (holds (bare v) d && equal (picked by v.values) (picked by g.values)) ≡ false
     other_group v g d no_one = and_right (holds (bare v) d) (equal (picked by v.values) (picked by g.values)) (step (cases_Bool (equal (picked by v.values) (picked by g.values))))
@@ -131,82 +125,91 @@ module _ (m : Measure) (by : List ℕ) (n : ℕ) (ws rows : List Row) (from end 
         subst (λ w. (holds (bare w) d && equal (picked by w.values) (picked by g.values)) ≡ false) (sym (get_or-drop upto ws k no_row))
         (other_group (get_or ws (upto + k) no_row) g d (λ e. run.ends (omega arith) (together from upto (upto + k) (omega arith) (omega arith) b (sym (e ∙ of)))))))
 
+    abbrev group : List Row
+    group = between from upto ws
+
+    -- a row of the group, by its index in the group and in the rows
+    group_at : (j : ℕ) → from + j < upto → get_or group j no_row ≡ get_or ws (from + j) no_row
+    group_at j l = get_or-between ws from upto j no_row l
+
     -- a row of the run's tally says what the group comes to
-    says_run : (i d : ℕ) (u : Row) → from ≤ i → i < upto → Holds (bare u) d → u.values ≡ tuple_by (get_or rows from no_row) by (amount m (held (between from upto rows) d)) → Says m by ws d (get_or ws i no_row) u
+    says_run : (i d : ℕ) (u : Row) → from ≤ i → i < upto → Holds (bare u) d → u.values ≡ tuple_by (get_or group 0 no_row) by (amount m (held group d)) → Says m by ws d (get_or ws i no_row) u
     says_run i d u low high h is =
         let of = run.alike i low high in
-        (h, is ∙ ap₂ (λ ps z. firsts most_columns (ps ++ (z ∷ [])) (pos 0)) (ap (λ g. picked by g.values) (row_kept from lt) ∙ sym of) (ap (λ t. amount m (held t d)) run_kept ∙ ap (amount m) (sym (group_run (get_or ws i no_row) d of))))
+        let here : from + 0 ≡ from = omega arith in
+        let zeroth : get_or group 0 no_row ≡ get_or ws from no_row = group_at 0 (omega arith) ∙ ap (λ k. get_or ws k no_row) here in
+        (h, is ∙ ap₂ (λ ps z. firsts most_columns (ps ++ (z ∷ [])) (pos 0)) (ap (λ g. picked by g.values) zeroth ∙ sym of) (ap (amount m) (sym (group_run (get_or ws i no_row) d of))))
 
-    module _ (rows' : List Row) (r : ℕ) (long : length rows' ≡ length rows) (room : end + 2 * (upto - from) ≤ length rows)
-        (few' : r ≤ 2 * (upto - from))
-        (rest : (k : ℕ) → (k < end) ⊎ (end + 2 * (upto - from) ≤ k) → get_or rows' k no_row ≡ get_or rows k no_row)
-        (periods' : (j : ℕ) → j < r → Period (bare (get_or rows' (end + j) no_row)))
-        (gives : (j d : ℕ) → j < r → Holds (bare (get_or rows' (end + j) no_row)) d → GivesBy m by rows from upto d (get_or rows' (end + j) no_row))
-        (all : (d : ℕ) → HeldIn rows from upto d → HeldIn rows' end (end + r) d) where
-      still : (k : ℕ) → k < end → get_or rows' k no_row ≡ get_or rows k no_row
-      still k l = rest k (inl l)
+    module _ (out' part : List Row) (r : ℕ)
+        (few' : r ≤ 2 * length group) (room : r ≤ length part)
+        (still : (k : ℕ) → k < made → get_or out' k no_row ≡ get_or out k no_row)
+        (new : (j : ℕ) → j < r → get_or out' (made + j) no_row ≡ get_or part j no_row)
+        (periods' : AllOf (λ w. Period (bare w)) (take r part))
+        (gives : (j d : ℕ) → j < r → Holds (bare (get_or part j no_row)) d → Gives m by group d (get_or part j no_row))
+        (all : (d : ℕ) → HeldIn group d → HeldIn (take r part) d) where
+      size : length group ≡ upto - from
+      size = length-between ws from upto run.within
 
       -- the new rows, by their index in the area
-      new_period : (k : ℕ) → end ≤ k → k < end + r → Period (bare (get_or rows' k no_row))
-      new_period k low high = let is : end + (k - end) ≡ k = omega arith in subst (λ j. Period (bare (get_or rows' j no_row))) is (periods' (k - end) (omega arith))
+      new_at : (k : ℕ) → made ≤ k → k < made + r → get_or out' k no_row ≡ get_or part (k - made) no_row
+      new_at k low high = let is : made + (k - made) ≡ k = omega arith in ap (λ j. get_or out' j no_row) (sym is) ∙ new (k - made) (omega arith)
 
-      new_gives : (k d : ℕ) → end ≤ k → k < end + r → Holds (bare (get_or rows' k no_row)) d → GivesBy m by rows from upto d (get_or rows' k no_row)
-      new_gives k d low high h =
-          let is : end + (k - end) ≡ k = omega arith in
-          subst (λ j. GivesBy m by rows from upto d (get_or rows' j no_row)) is (gives (k - end) d (omega arith) (subst (λ j. Holds (bare (get_or rows' j no_row)) d) (sym is) h))
+      new_period : (k : ℕ) → made ≤ k → k < made + r → Period (bare (get_or out' k no_row))
+      new_period k low high =
+          let long : length (take r part) ≡ r = length-take-le r part room in
+          let l : k - made < r = omega arith in
+          subst (λ w. Period (bare w)) (sym (new_at k low high ∙ sym (get_or-take r part (k - made) no_row l))) (All-get_or (λ w. Period (bare w)) (take r part) (k - made) no_row (omega arith) periods')
 
-      front_still : take n rows' ≡ ws
-      front_still =
-          let b = a.behind in
-          ext_get_or no_row (take n rows') (take n rows) (length-take n rows' ∙ (omega arith) ∙ sym (length-take n rows))
-          (λ i l. let c : i < n = omega (arith, length-take n rows') in get_or-take n rows' i no_row c ∙ still i (omega arith) ∙ sym (get_or-take n rows i no_row c))
-          ∙ a.front
+      new_gives : (k d : ℕ) → made ≤ k → k < made + r → Holds (bare (get_or out' k no_row)) d → Gives m by group d (get_or out' k no_row)
+      new_gives k d low high h = subst (Gives m by group d) (sym (new_at k low high)) (gives (k - made) d (omega arith) (subst (λ w. Holds (bare w) d) (new_at k low high) h))
 
-      fresh_next : (i : ℕ) → i < upto → upto < n → Alike by (get_or ws i no_row) (get_or ws upto no_row) → ⊥
+      fresh_next : (i : ℕ) → i < upto → upto < length ws → Alike by (get_or ws i no_row) (get_or ws upto no_row) → ⊥
       fresh_next i l b e = step (cases_lt i from)
         where
           step : (i < from) ⊎ (from ≤ i) → ⊥
           step (inl c) = a.fresh i c lt (sym (together i from upto (omega arith) (omega (arith, run.some)) (omega arith) e))
           step (inr c) = run.ends (omega arith) (sym e ∙ run.alike i c l)
 
-      period_next : (k : ℕ) → n ≤ k → k < end + r → Period (bare (get_or rows' k no_row))
-      period_next k low high = step (cases_lt k end)
+      period_next : (k : ℕ) → k < made + r → Period (bare (get_or out' k no_row))
+      period_next k high = step (cases_lt k made)
         where
-          step : (k < end) ⊎ (end ≤ k) → Period (bare (get_or rows' k no_row))
-          step (inl l) = subst (λ w. Period (bare w)) (sym (still k l)) (a.periods k low l)
+          step : (k < made) ⊎ (made ≤ k) → Period (bare (get_or out' k no_row))
+          step (inl l) = subst (λ w. Period (bare w)) (sym (still k l)) (a.periods k l)
           step (inr l) = new_period k l high
 
-      sound_next : (k d : ℕ) → n ≤ k → k < end + r → Holds (bare (get_or rows' k no_row)) d → (i : ℕ) × ((i < n) × (Holds (bare (get_or ws i no_row)) d × Says m by ws d (get_or ws i no_row) (get_or rows' k no_row)))
-      sound_next k d low high h = step (cases_lt k end)
+      sound_next : (k d : ℕ) → k < made + r → Holds (bare (get_or out' k no_row)) d → (i : ℕ) × ((i < length ws) × (Holds (bare (get_or ws i no_row)) d × Says m by ws d (get_or ws i no_row) (get_or out' k no_row)))
+      sound_next k d high h = step (cases_lt k made)
         where
-          step : (k < end) ⊎ (end ≤ k) → (i : ℕ) × ((i < n) × (Holds (bare (get_or ws i no_row)) d × Says m by ws d (get_or ws i no_row) (get_or rows' k no_row)))
+          step : (k < made) ⊎ (made ≤ k) → (i : ℕ) × ((i < length ws) × (Holds (bare (get_or ws i no_row)) d × Says m by ws d (get_or ws i no_row) (get_or out' k no_row)))
           step (inl l) =
-              let s = a.sound k d low l (subst (λ w. Holds (bare w) d) (still k l) h) in
+              let s = a.sound k d l (subst (λ w. Holds (bare w) d) (still k l) h) in
               (s.0, (s.1.0, (s.1.1.0, subst (Says m by ws d (get_or ws s.0 no_row)) (sym (still k l)) s.1.1.1)))
           step (inr l) =
               let g = new_gives k d l high h in
-              let i = g.some.0 in
-              let b : i < n = omega (arith, g.some.1.1, upto_within) in
-              (i, (b, (subst (λ w. Holds (bare w) d) (row_kept i b) g.some.1.2, says_run i d (get_or rows' k no_row) g.some.1.0 g.some.1.1 h g.values)))
+              let j = g.some.0 in
+              let b : from + j < upto = omega (arith, g.some.1.0, size) in
+              (from + j, (omega (arith, run.within), (subst (λ w. Holds (bare w) d) (group_at j b) g.some.1.1, says_run (from + j) d (get_or out' k no_row) (omega arith) b h g.values)))
 
-      whole_next : (i d : ℕ) → i < upto → Holds (bare (get_or ws i no_row)) d → (k : ℕ) × ((n ≤ k) × (k < end + r) × Says m by ws d (get_or ws i no_row) (get_or rows' k no_row))
+      whole_next : (i d : ℕ) → i < upto → Holds (bare (get_or ws i no_row)) d → (k : ℕ) × ((k < made + r) × Says m by ws d (get_or ws i no_row) (get_or out' k no_row))
       whole_next i d l h = step (cases_lt i from)
         where
-          step : (i < from) ⊎ (from ≤ i) → (k : ℕ) × ((n ≤ k) × (k < end + r) × Says m by ws d (get_or ws i no_row) (get_or rows' k no_row))
+          step : (i < from) ⊎ (from ≤ i) → (k : ℕ) × ((k < made + r) × Says m by ws d (get_or ws i no_row) (get_or out' k no_row))
           step (inl c) =
               let s = a.whole i d c h in
-              (s.0, (s.1.0, omega (arith, s.1.1), subst (Says m by ws d (get_or ws i no_row)) (sym (still s.0 s.1.1)) s.1.2))
+              (s.0, (omega (arith, s.1.0), subst (Says m by ws d (get_or ws i no_row)) (sym (still s.0 s.1.0)) s.1.1))
           step (inr c) =
-              let f = all d (i, (c, l, subst (λ w. Holds (bare w) d) (sym (row_kept i (omega (arith, upto_within)))) h)) in
-              let g = new_gives f.0 d f.1.0 f.1.1 f.1.2 in
-              (f.0, (omega (arith, f.1.0, a.behind), f.1.1, says_run i d (get_or rows' f.0 no_row) c l f.1.2 g.values))
+              let is : from + (i - from) ≡ i = omega arith in
+              let f = all d (i - from, (omega (arith, size), subst (λ w. Holds (bare w) d) (sym (group_at (i - from) (omega arith) ∙ ap (λ j. get_or ws j no_row) is)) h)) in
+              let j = f.0 in
+              let b : j < r = omega (arith, f.1.0, length-take-le r part room) in
+              let held' : Holds (bare (get_or out' (made + j) no_row)) d = subst (λ w. Holds (bare w) d) (get_or-take r part j no_row b ∙ sym (new j b)) f.1.1 in
+              let g = new_gives (made + j) d (omega arith) (omega arith) held' in
+              (made + j, (omega arith, says_run i d (get_or out' (made + j) no_row) c l held' g.values))
 
-      pub running_more : Running m by n ws rows' upto (end + r)
+      pub running_more : Running m by ws out' upto (made + r)
       running_more = record {
-        reached = upto_within;
-        behind = omega (arith, a.behind);
-        few = omega (arith, a.few, run.some);
-        front = front_still;
+        reached = run.within;
+        few = omega (arith, a.few, run.some, size);
         fresh = fresh_next;
         periods = period_next;
         sound = sound_next;

@@ -1,5 +1,6 @@
 -- The call: when it is refused, and what it leaves in the whole areas.
-use Rattle.std.proofs.Common.{◌≡◌, ℕ, ◌-◌, ◌*◌, ◌<◌, ◌≤◌, Bool, true, false, cond, not, leb, ◌⊎◌, List, ◌++◌, length, take, drop, replicate, Some, None, Ok, Err, Option, Result, refl, ap, ◌∙◌, ap₂, inl, inr, arith}
+use Rattle.std.proofs.Common.{◌≡◌, ℕ, ◌*◌, ◌<◌, ◌≤◌, Bool, true, false, cond, not, leb, ◌⊎◌, List, ◌++◌, length, take, drop, replicate, Some, None, Ok, Err, Option, Result, sym, refl, ap, ◌∙◌, ap₂, inl, inr, arith}
+use native.Mathlib.Nat.{sub-zero}
 use borrow.Rule.Slice.PartMut.{post_of, Post-is}
 use Rattle.std.proofs.lemmas.List.{length-take-le}
 use Rattle.std.proofs.lemmas.Bool.{and_from, and_left, and_right, le-leb, lt-leb, cases_lt}
@@ -50,20 +51,20 @@ module _ (m : Meaning) (w : Tally) (by : List ℕ) (rows : List Row) (index : Li
 
 -- ---- the part of an area that counts, lent and given back
 
-module _ {X : Type 0} (xs part : List X) (e : ℕ) (all : e ≡ counted xs) (same : length part ≡ length (take (e - 0) xs)) where
-  pub part_size : length (take (e - 0) xs) ≡ counted xs
-  part_size = length-take-le (e - 0) xs (omega arith) ∙ omega arith
+module _ {X : Type 0} (xs part : List X) (e : ℕ) (all : e ≡ counted xs) (same : length part ≡ length (take e xs)) where
+  pub part_size : length (take e xs) ≡ counted xs
+  part_size = length-take-le e xs (omega arith) ∙ omega arith
 
-  part_back : take (counted xs) (part ++ post_of 0 (e - 0) xs) ≡ part
-  part_back = take_front (counted xs) part (post_of 0 (e - 0) xs) (same ∙ part_size)
+  part_back : take (counted xs) (part ++ post_of 0 e xs) ≡ part
+  part_back = take_front (counted xs) part (post_of 0 e xs) (same ∙ part_size)
 
-  rest_kept : drop (counted xs) (part ++ post_of 0 (e - 0) xs) ≡ drop (counted xs) xs
-  rest_kept = drop_front (counted xs) part (post_of 0 (e - 0) xs) (same ∙ part_size) ∙ Post-is 0 e xs (omega arith) ∙ ap (λ k. drop k xs) all
+  rest_kept : drop (counted xs) (part ++ post_of 0 e xs) ≡ drop (counted xs) xs
+  rest_kept = drop_front (counted xs) part (post_of 0 e xs) (same ∙ part_size) ∙ ap (λ k. post_of 0 k xs) (sym (sub-zero e)) ∙ Post-is 0 e xs (omega arith) ∙ ap (λ k. drop k xs) all
 
 module _ (m : Meaning) (w : Tally) (by : List ℕ) (rows part-rows : List Row) (index part-index : List Node) (re ie : ℕ) (p : re ≡ counted rows) (q : ie ≡ counted index)
-    (sr : length part-rows ≡ length (take (re - 0) rows)) (si : length part-index ≡ length (take (ie - 0) index)) (none : no_tally m w by rows index ≡ None) where
-  pub tallied_whole : (r : Result ℕ Refusal) → TalliesSets w by (day_set m) (length (take (re - 0) rows)) (length (take (ie - 0) index)) r part-rows part-index
-      → Tallies (no_tally m w by rows index) w by (day_set m) rows index r (part-rows ++ post_of 0 (re - 0) rows) (part-index ++ post_of 0 (ie - 0) index)
+    (sr : length part-rows ≡ length (take re rows)) (si : length part-index ≡ length (take ie index)) (none : no_tally m w by rows index ≡ None) where
+  pub tallied_whole : (r : Result ℕ Refusal) → TalliesSets w by (day_set m) (length (take re rows)) (length (take ie index)) r part-rows part-index
+      → Tallies (no_tally m w by rows index) w by (day_set m) rows index r (part-rows ++ post_of 0 re rows) (part-index ++ post_of 0 ie index)
   tallied_whole (Ok n) h = (none, h.0, leaves (λ d. tally w by (day_set m d)) rows rows part-rows index part-index re ie n p q refl refl sr si h.1)
   tallied_whole (Err e) h = inr (
     none,

@@ -23,7 +23,6 @@ fn tally_within<S: Source>(
     rows: &mut [Row],
     index: &mut [Node],
 ) -> Result<usize, Refusal>
-    requires source { S.Source.accepted source.now }
     requires fits { fitting (S.Source.meaning source.now) what by.now ≡ true }
     requires rows_room { 3 * length (rows_of (S.Source.meaning source.now)) ≤ length rows.old }
     requires index_room { 3 * length (rows_of (S.Source.meaning source.now)) ≤ length index.old }
@@ -47,23 +46,22 @@ pub fn tally<S: Source>(
     rows: &mut [Row],
     index: &mut [Node],
 ) -> Result<usize, Refusal>
-    requires { S.Source.accepted source.now }
     ensures { Tallies (no_tally (S.Source.meaning source.now) what by.now rows.old index.old) what by.now (day_set (S.Source.meaning source.now)) rows.old index.old result rows.new index.new }
 {
     if !fits(source, what, by) {
-        return Err(Refusal::plain(Reason::Misfit));
+        return Err(Reason::Misfit.into());
     }
     let rows_end = rows.len().min(MOST_WORK);
     let index_end = index.len().min(MOST_WORK);
     let limit = rows_end.min(index_end) / 3;
     if count_filled(source, limit) > limit {
-        return Err(Refusal::plain(Reason::ShortWork));
+        return Err(Reason::ShortWork.into());
     }
     tally_within(
         source,
         what,
         by,
-        &mut rows[0..rows_end],
-        &mut index[0..index_end],
+        &mut rows[..rows_end],
+        &mut index[..index_end],
     )
 }

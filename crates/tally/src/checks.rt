@@ -11,20 +11,13 @@ use tallies::rules::Tally;
 
 // Whether the source has each of the columns.
 fn has_columns<S: Source>(source: &S, by: &[usize]) -> bool
-    requires { S.Source.accepted source.now }
     ensures { result ≡ list_all (λ c. is_some (kind_of (S.Source.meaning source.now) c)) by.now }
 {
-    for c in by {
-        if source.kind(*c).is_none() {
-            return false;
-        }
-    }
-    true
+    by.iter().all(|c| source.kind(*c).is_some())
 }
 
 // Whether the source has the column that the tally is of, of kind n where it is summed.
 fn has_measured<S: Source>(source: &S, what: Tally) -> bool
-    requires { S.Source.accepted source.now }
     ensures { result ≡ measurable (S.Source.meaning source.now) what }
 {
     match what {
@@ -36,7 +29,6 @@ fn has_measured<S: Source>(source: &S, what: Tally) -> bool
 
 // Whether there are few enough grouping columns, and the source has these and the tally's column.
 pub fn fits<S: Source>(source: &S, what: Tally, by: &[usize]) -> bool
-    requires { S.Source.accepted source.now }
     ensures { result ≡ fitting (S.Source.meaning source.now) what by.now }
 {
     by.len() < MOST_COLUMNS && has_columns(source, by) && has_measured(source, what)

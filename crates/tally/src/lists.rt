@@ -1,21 +1,21 @@
 // A list of rows tallied in place.
-ghost use Rattle.std.specs.Prelude.{◌≡◌, ℕ, ◌*◌, ◌<◌, ◌≤◌, List, map, length, take, replicate, slice_index_or};
+ghost use Rattle.std.specs.Prelude.{◌≡◌, ℕ, ◌*◌, ◌<◌, ◌≤◌, List, map, length, take, replicate};
 ghost use Rattle.std.specs.List.{AllByRecursion as AllOf};
 ghost use Rattle.relation.specs.Bounds.{most_columns, most_work};
 ghost use Rattle.relation.specs.Rows.{SpecRow, Period, Lists};
 ghost use Rattle.relation.specs.Sets.{TupleSet};
 ghost use Rattle.relation.specs.Stored.{stored, blank_row};
 ghost use Rattle.tree.specs.Trees.{blank};
-ghost use Rattle.collect.specs.Areas.{no_row, bare};
+ghost use Rattle.collect.specs.Areas.{bare};
 ghost use Rattle.cuts.specs.Amounts.{Within};
-ghost use Rattle.tally.specs.Results.{measure_of, Narrow};
+ghost use Rattle.tally.specs.Results.{Narrow};
 ghost use Rattle.tally.specs.Tallying.{TalliesSets};
 
-use crate::gathers::gather;
+use crate::gathers::ByColumns;
 use crate::runs::tally_groups;
-use crate::sums::{measure, sums_fit};
-use collect::blanks::fill;
+use crate::sums::sums_fit;
 use collect::listing::list_rows;
+use collect::sorting::sort;
 use relation::refusals::{Reason, Refusal};
 use relation::rows::Row;
 use tallies::rules::Tally;
@@ -26,8 +26,8 @@ fn blank_all(rows: &mut [Row], index: &mut [Node])
     ensures rows { rows.new ≡ replicate (length rows.old) blank_row }
     ensures index { index.new ≡ replicate (length index.old) blank }
 {
-    fill(rows, 0, rows.len(), Row::blank());
-    fill(index, 0, index.len(), Node::blank());
+    rows.fill(Row::blank());
+    index.fill(Node::blank());
 }
 
 // Tallies the first `n` rows, which are the canonical list of some sets: leaves the canonical list of the tallied sets at the start of
@@ -44,16 +44,17 @@ pub fn tally_list(
     requires few_index { length index.old ≤ most_work }
     requires few_columns { length by.now < most_columns }
     requires narrow { Narrow what }
-    requires periods { (i : ℕ) → i < n → Period (bare (slice_index_or rows.old i no_row)) }
-    requires within { (i : ℕ) → i < n → Within (measure_of what) (slice_index_or rows.old i no_row) }
+    requires periods { AllOf (λ w. Period (bare w)) (take n rows.old) }
+    requires within { AllOf (Within what) (take n rows.old) }
     ensures { (xs : List SpecRow) (f : ℕ → TupleSet) → take n rows.old ≡ map stored xs → Lists xs f → AllOf (λ c. c ≤ most_columns) by.now → TalliesSets what by.now f (length rows.old) (length index.old) result rows.new index.new }
 {
-    gather(&mut rows[0..n], index, by);
-    let end = tally_groups(rows, index, n, by, measure(what));
-    if !sums_fit(what, &rows[n..end], by.len()) {
+    let (listed, out) = rows.split_at_mut(n);
+    sort(listed, index, &ByColumns { by });
+    let made = tally_groups(listed, out, index, by, what);
+    if !sums_fit(what, &out[..made], by.len()) {
         blank_all(rows, index);
-        return Err(Refusal::plain(Reason::SumOutside));
+        return Err(Reason::SumOutside.into());
     }
-    rows.copy_within(n..end, 0);
-    Ok(list_rows(rows, index, end - n))
+    rows.copy_within(n..n + made, 0);
+    Ok(list_rows(rows, index, made))
 }

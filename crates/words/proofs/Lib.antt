@@ -1,6 +1,5 @@
 pub mod Cutting
 pub mod Numeric
 pub mod Listed
-pub mod Lining
 pub mod Padded
 pub mod Gaps

@@ -1,5 +1,6 @@
 -- A word that a table of words does not have.
-use Rattle.std.proofs.Common.{◌≡◌, ℕ, false, List, [], ◌∷◌, None, codes, IsUtf8, Option, sym, refl, ◌∙◌, subst, ⊎_elim}
+use Rattle.std.proofs.Common.{◌≡◌, ℕ, false, List, [], ◌∷◌, None, codes, IsUtf8, Option, Result, Ok, Err, MatchResult, sym, refl, ◌∙◌, subst, ⊎_elim, arith}
+use Rattle.std.specs.Result.{result_ok}
 use lib.Utf8.{encode}
 use Rattle.std.specs.Str.{bytes_eq}
 use Rattle.std.proofs.lemmas.Slice.Eq.{bytes_eq-Decides}
@@ -17,6 +18,11 @@ Unlisted w (e ∷ es) = (w ≡ e.0 → ⊥) × Unlisted w es
 pub unlisted : {X : Type 0} (w : List ℕ) (es : List (List ℕ × X)) → Unlisted w es → ◌≡◌ {A = Option X} None (meant_by w es)
 unlisted w [] h = refl
 unlisted w (e ∷ es) h = unlisted w es h.1 ∙ sym (cond-false (bytes_eq w e.0) _ _ (other_bytes w e.0 h.0))
+
+-- a result that is no `Ok` is an error
+pub error_of : {T E : Type 0} (P : T → Type 0) (Q : E → Type 0) (r : Result T E) → result_ok r ≡ None → MatchResult r P Q → (e : E) × Q e
+error_of P Q (Ok x) n h = let z : ◌≡◌ {A = ℕ} 0 1 = cc in absurd (omega arith)
+error_of P Q (Err e) n h = (e, h)
 
 -- every word of the table is text
 abbrev pub Texts : {X : Type 0} → List (List ℕ × X) → Type 0

@@ -3,9 +3,7 @@ use Rattle.std.specs.List.{list_all}
 use Rattle.std.specs.Prelude.{ℕ, Bool, cond, ◌&&◌, ◌||◌, List, map, length, Some, None, Option, ◌==◌, nat_le}
 use Rattle.relation.specs.declared.kinds.Kind.{Kind}
 use Rattle.relation.specs.declared.kinds.Kind.TheVariants.{Number, Word}
-use Rattle.relation.specs.declared.columns.Kinds.{Kinds}
 use Rattle.relation.specs.Bounds.{most_columns}
-use Rattle.relation.specs.Stored.{firsts}
 
 -- n or w
 abbrev pub kind_byte : ℕ → Bool
@@ -18,10 +16,6 @@ kind_of b = cond (b == 119) Word Number
 abbrev pub is_kinds : List ℕ → Bool
 is_kinds w = nat_le 1 (length w) && list_all kind_byte w
 
--- how kinds are stored
-abbrev pub kept : List Kind → Kinds
-kept ks = record { count = length ks; at = firsts most_columns ks Number }
-
 -- 1 to 6 letters, a kind each
-abbrev pub kinds_of : List ℕ → Option Kinds
-kinds_of w = cond (is_kinds w && nat_le (length w) most_columns) (Some (kept (map kind_of w))) None
+abbrev pub kinds_of : List ℕ → Option (List Kind)
+kinds_of w = cond (is_kinds w && nat_le (length w) most_columns) (Some (map kind_of w)) None

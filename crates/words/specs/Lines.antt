@@ -1,5 +1,5 @@
 -- The lines of a text: byte 10 ends each, and the last may lack it.
-use Rattle.std.specs.Prelude.{ℕ, cond, List, [], ◌∷◌, ◌++◌, drop, ◌==◌}
+use Rattle.std.specs.Prelude.{ℕ, cond, List, [], ◌∷◌, ◌++◌, ◌==◌}
 
 -- a last line that no byte 10 ends
 abbrev pub closed : List ℕ → List (List ℕ)
@@ -14,7 +14,3 @@ lines_from w (b ∷ bs) = cond (b == 10) (w ∷ lines_from [] bs) (lines_from (w
 -- the lines of a text
 abbrev pub lines : List ℕ → List (List ℕ)
 lines bs = lines_from [] bs
-
--- the lines of a text from the start of a line on
-abbrev pub lines_at : List ℕ → ℕ → List (List ℕ)
-lines_at bs p = lines_from [] (drop p bs)

@@ -3,7 +3,7 @@ use Rattle.std.specs.Prelude.{ℕ, List, map}
 use Rattle.words.specs.declared.reader.Words.{Words}
 use Rattle.words.specs.declared.lines.Lines.{Lines}
 use Rattle.words.specs.Words.{Cut, left}
-use Rattle.words.specs.Lines.{lines_at}
+use Rattle.words.specs.Lines.{lines}
 
 -- the bytes of each word
 abbrev pub texts : List Cut → List (List ℕ)
@@ -17,4 +17,4 @@ abbrev pub rest : Words → List (List ℕ)
 rest w = texts (words_left w)
 
 abbrev pub lines_left : Lines → List (List ℕ)
-lines_left l = lines_at l.text.now l.at
+lines_left l = lines l.rest.now

@@ -6,5 +6,6 @@ pub mod lines;
 pub mod names;
 pub mod numbers;
 pub mod reader;
+mod search;
 pub mod theorems;
 pub mod tokens;

@@ -1,9 +1,10 @@
 // Names, and the words that are none since a query's line gives them a meaning.
 ghost use Rattle.std.specs.List.{list_all};
 ghost use Rattle.std.specs.Prelude.{◌≡◌};
+ghost use Rattle.std.specs.Result.{result_ok};
 ghost use Rattle.words.specs.Name.{reserved as reserved_in, name_byte, is_name};
 
-use std::str::from_utf8;
+use std::str::{FromStr, from_utf8};
 
 #[derive(Clone, Copy, Drop, PartialEq, Debug)]
 pub enum Reserved {
@@ -15,17 +16,25 @@ pub enum Reserved {
     By,
 }
 
-fn text_reserved(text: &str) -> Option<Reserved>
-    ensures { result ≡ reserved_in text.now }
-{
-    match text {
-        "base" => Some(Reserved::Base),
-        "during" => Some(Reserved::During),
-        "where" => Some(Reserved::Where),
-        "on" => Some(Reserved::On),
-        "of" => Some(Reserved::Of),
-        "by" => Some(Reserved::By),
-        _ => None,
+// A word that stands for nothing.
+#[derive(Clone, Copy, Drop, PartialEq, Eq, Debug)]
+pub struct UnknownWord;
+
+impl FromStr for Reserved {
+    type Err = UnknownWord;
+
+    ghost from_str_gives = { λ text r. result_ok r ≡ reserved_in text };
+
+    fn from_str(text: &str) -> Result<Reserved, UnknownWord> {
+        match text {
+            "base" => Ok(Reserved::Base),
+            "during" => Ok(Reserved::During),
+            "where" => Ok(Reserved::Where),
+            "on" => Ok(Reserved::On),
+            "of" => Ok(Reserved::Of),
+            "by" => Ok(Reserved::By),
+            _ => Err(UnknownWord),
+        }
     }
 }
 
@@ -33,30 +42,19 @@ fn text_reserved(text: &str) -> Option<Reserved>
 pub fn find_reserved(word: &[u8]) -> Option<Reserved>
     ensures { result ≡ reserved_in word.now }
 {
-    match from_utf8(word) {
-        Ok(text) => text_reserved(text),
-        Err(_) => None,
-    }
+    from_utf8(word).ok()?.parse().ok()
 }
 
 fn is_name_byte(b: u8) -> bool
     ensures { result ≡ name_byte b }
 {
-    match b as char {
-        'a'..='z' | '0'..='9' => true,
-        _ => false,
-    }
+    matches!(b as char, 'a'..='z' | '0'..='9')
 }
 
 fn name_bytes(word: &[u8]) -> bool
     ensures { result ≡ list_all name_byte word.now }
 {
-    for b in word {
-        if !is_name_byte(*b) {
-            return false;
-        }
-    }
-    true
+    word.iter().all(|b| is_name_byte(*b))
 }
 
 // Whether a word is a name.
@@ -67,5 +65,5 @@ pub fn is_name(word: &[u8]) -> bool
         && word.len() <= 8
         && word[0].is_ascii_lowercase()
         && name_bytes(word)
-        && !find_reserved(word).is_some()
+        && find_reserved(word).is_none()
 }

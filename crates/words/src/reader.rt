@@ -1,8 +1,8 @@
 // A line's words. Spaces part them.
-ghost use Rattle.std.specs.Prelude.{◌≡◌, ◌+◌, ◌-◌, ◌<◌, ◌≤◌, [], ◌∷◌, length, MatchOption, ◌≢◌, slice_index};
-ghost use Rattle.std.specs.List.{between};
-ghost use Rattle.words.specs.Words.{words as words_of, left, ended};
-ghost use Rattle.words.specs.Rest.{words_left};
+ghost use Rattle.std.specs.Prelude.{◌≡◌, not, ◌==◌, ⊤};
+ghost use Rattle.std.specs.List.{position};
+
+use crate::search::length_before;
 
 const SPACE: u8 = b' ';
 
@@ -20,54 +20,44 @@ pub struct Words<'a> {
     at: usize,
 }
 
-// The first place from `at` on that has no space.
-fn skip(line: &[u8], at: usize) -> usize
-    ensures same { left line.now at ≡ left line.now result }
-    ensures stops { result < length line.now → slice_index line.now result ≢ 32 }
+// How many spaces stand before the first other byte, if there is one.
+fn leading_spaces(bytes: &[u8]) -> Option<usize>
+    ensures { result ≡ position (λ b. not (b == 32)) bytes.now }
 {
-    let mut i = at;
-    while i < line.len() && line[i] == SPACE {
-        i += 1;
-    }
-    i
-}
-
-// Where the word that begins at `from` ends.
-fn word_end(line: &[u8], from: usize) -> usize
-    requires { (from < length line.now) × ((slice_index line.now from ≢ 32)) }
-    ensures more { from < result }
-    ensures within { result ≤ length line.now }
-    ensures cuts { left line.now from ≡ ended result (between from result line.now) (left line.now result) }
-{
-    let mut i = from;
-    while i < line.len() && line[i] != SPACE {
-        i += 1;
-    }
-    i
+    bytes.iter().position(|b| *b != SPACE)
 }
 
 impl<'a> Words<'a> {
+    ghost use Rattle.words.specs.Words.{words as words_of};
+    ghost use Rattle.words.specs.Rest.{words_left};
+
     pub fn new(line: &'a [u8]) -> Words<'a>
         ensures { words_left result ≡ words_of line.now }
     {
         Words { line, at: 0 }
     }
+}
 
-    // The next word, if there is one.
-    pub fn next(&mut self) -> Option<Word<'a>>
-        ensures kept { self.new.line ≡ self.old.line }
-        ensures cases { MatchOption result ((words_left self.old ≡ []) × (words_left self.new ≡ [])) (λ w. words_left self.old ≡ (w.place, w.text.now) ∷ words_left self.new) }
+// The next word, if there is one.
+impl<'a> Iterator for Words<'a> {
+    ghost use Rattle.std.specs.Iterator.{YieldsFirstBy, MakesProgress, item_count};
+    ghost use Rattle.words.specs.Rest.{words_left};
+
+    type Item = Word<'a>;
+
+    ghost next_gives = { YieldsFirstBy (λ w. (w.place, w.text.now)) words_left };
+
+    ghost remaining = { item_count words_left };
+
+    fn next(&mut self) -> Option<Word<'a>>
+        ensures steps { (self.new.line ≡ self.old.line) × YieldsFirstBy (λ w. (w.place, w.text.now)) words_left self.old result self.new }
+        ensures goes { MakesProgress (λ _. ⊤) (item_count words_left) self.old result self.new }
     {
-        let from = skip(self.line, self.at);
-        self.at = from;
-        if from >= self.line.len() {
-            return None;
-        }
-        let end = word_end(self.line, from);
-        self.at = end;
-        Some(Word {
-            text: &self.line[from..end],
-            place: from,
-        })
+        let ahead = self.line.get(self.at..)?;
+        let place = self.at + leading_spaces(ahead)?;
+        let word = &self.line[place..];
+        let text = &word[..length_before(word, SPACE)];
+        self.at = place + text.len();
+        Some(Word { text, place })
     }
 }

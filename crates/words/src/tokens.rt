@@ -42,25 +42,16 @@ pub enum Value<'a> {
 fn read_quoted<'a>(after: &'a [u8]) -> Option<Token<'a>>
     ensures { option_map means result ≡ quotation after.now }
 {
-    let n = after.len();
-    if n == 0 || after[n - 1] != b'\'' {
-        return None;
-    }
-    let inner = &after[0..n - 1];
-    if is_word(inner) {
-        Some(Token::Quoted(inner))
-    } else {
-        None
-    }
+    let inner = after.strip_suffix(b"'")?;
+    is_word(inner).then_some(Token::Quoted(inner))
 }
 
 fn read_column<'a>(word: &'a [u8]) -> Option<Token<'a>>
     ensures { option_map means result ≡ column_of word.now }
 {
-    if word.len() == 2 && word[0] == b'c' && b'1' <= word[1] && word[1] <= b'6' {
-        Some(Token::Column((word[1] - b'0') as usize))
-    } else {
-        None
+    match word {
+        [b'c', digit @ b'1'..=b'6'] => Some(Token::Column((*digit - b'0') as usize)),
+        _ => None,
     }
 }
 
@@ -105,22 +96,10 @@ pub fn read_token<'a>(word: &'a [u8], position: Position) -> Option<Token<'a>>
     };
     match *first as char {
         '\'' => read_quoted(rest),
-        '-' | '0'..='9' => match signed(word) {
-            Some(z) => Some(Token::Number(z)),
-            None => None,
-        },
-        '=' | '!' | '<' | '>' => match read_sign(word) {
-            Some(s) => Some(Token::Sign(s)),
-            None => None,
-        },
+        '-' | '0'..='9' => Some(Token::Number(signed(word)?)),
+        '=' | '!' | '<' | '>' => Some(Token::Sign(read_sign(word)?)),
         _ => match position {
-            Position::Name => {
-                if is_name(word) {
-                    Some(Token::Name(word))
-                } else {
-                    None
-                }
-            }
+            Position::Name => is_name(word).then_some(Token::Name(word)),
             Position::Column => read_column(word),
         },
     }

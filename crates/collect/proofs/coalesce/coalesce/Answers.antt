@@ -1,8 +1,9 @@
 -- Each turn is a step of `Sweeping`; the rows swept are the canonical list of the day sets.
-use Rattle.std.proofs.Common.{◌≡◌, ℕ, ◌+◌, ◌<◌, ◌≤◌, Bool, true, false, ◌⊎◌, List, map, get_or, take, ℤ, Decides, sym, subst, inl, inr, arith}
+use Rattle.std.proofs.Common.{◌≡◌, ℕ, ◌+◌, ◌<◌, ◌≤◌, Bool, true, false, ◌⊎◌, List, map, length, get_or, take, ℤ, Decides, sym, ◌∙◌, subst, inl, inr, arith}
 use Rattle.std.specs.List.{AllByRecursion as AllOf}
+use Rattle.std.proofs.lemmas.List.{take_all}
 use Rattle.std.proofs.lemmas.Slice.Eq.{slice_eq-Decides}
-use Rattle.std.proofs.lemmas.Bool.{both_ways}
+use Rattle.std.proofs.lemmas.Bool.{both_ways, eqb-false}
 use Rattle.relation.specs.Rows.{on, Lists}
 use Rattle.collect.specs.Areas.{no_row, bare}
 use Rattle.collect.proofs.Sweeping.{sweeping_none, sweeping_grown, sweeping_new, sweeping_all, swept, swept_lists, swept_drawn, Drawn, at_row}
@@ -11,7 +12,9 @@ use Rattle.collect.proofs.coalesce.coalesce.Goals.{then-eq+then-row-open, else-e
 use Rattle.std.proofs.lemmas.Bool.Decides.{Decides-int_eq}
 
 pub loop-i-init : goal.loop-i-init
-loop-i-init c = sweeping_none c.args.n c.args.rows.now (omega arith)
+loop-i-init c =
+    let some = eqb-false (length c.args.rows.now) 0 (sym c.is_empty.ensures ∙ c.if-is_empty.false) in
+    sweeping_none (length c.args.rows.now) c.args.rows.now (omega (arith, some))
 
 -- the two tests failed
 apart : (xs ys : List ℤ) (first end : ℕ) (b : Bool) → Decides b (xs ≡ ys) → ((b ≡ true) × (end < first)) ⊎ (b ≡ false) → xs ≡ ys → first ≤ end → ⊥
@@ -28,10 +31,9 @@ loop-i-preserved c =
 
 pub returns : goal.returns
 returns c =
-    let is : map bare (take (c.loop-i.last + 1) c.loop-i.rows) ≡ swept c.args.n c.args.rows.now = sweeping_all _ _ _ _ _ c.loop-i.invariant c.loop-i-test.false (omega arith) (omega arith) in
+    let is : map bare (take (c.loop-i.last + 1) c.loop-i.rows) ≡ swept (length c.args.rows.now) c.args.rows.now = sweeping_all _ _ _ _ _ c.loop-i.invariant c.loop-i-test.false (omega arith) (omega arith) in
     record {
       few = omega arith;
-      lists = subst (λ l. Lists l (on (map bare (take c.args.n c.args.rows.now)))) (sym is) (swept_lists c.args.n c.args.rows.now (omega arith) (omega arith) c.requires.sorted c.requires.periods);
-      drawn = at_row (Drawn c.args.n c.args.rows.now) (c.loop-i.last + 1) c.loop-i.rows (omega arith) (subst (AllOf (Drawn c.args.n c.args.rows.now)) (sym is) (swept_drawn c.args.n c.args.rows.now (omega arith) (omega arith)));
-      rest = λ k l. c.loop-i.invariant.rest k (omega arith);
+      lists = subst (λ l. Lists l (on (map bare c.args.rows.now))) (sym is) (subst (λ l. Lists (swept (length c.args.rows.now) c.args.rows.now) (on (map bare l))) (take_all (length c.args.rows.now) c.args.rows.now (omega arith)) (swept_lists (length c.args.rows.now) c.args.rows.now (omega arith) (omega arith) c.requires.sorted c.requires.periods));
+      drawn = at_row (Drawn (length c.args.rows.now) c.args.rows.now) (c.loop-i.last + 1) c.loop-i.rows (omega arith) (subst (AllOf (Drawn (length c.args.rows.now) c.args.rows.now)) (sym is) (swept_drawn (length c.args.rows.now) c.args.rows.now (omega arith) (omega arith)));
     }

@@ -1,17 +1,18 @@
-use Rattle.std.proofs.Common.{get_or, arith, w64, SFits, rules}
+use Rattle.std.proofs.Common.{◌∙◌, arith, w64, SFits, rules}
 use Rattle.std.proofs.lemmas.Int.{to_z-of_z}
-use Rattle.collect.specs.Areas.{no_row}
-use Rattle.cuts.specs.Amounts.{value}
-use Rattle.cuts.proofs.Comparing.{compared_none, compared_rises, compared_more}
+use Rattle.cuts.proofs.Comparing.{compared_none, compared_rises, compared_more, compared_all}
 use Rattle.cuts.proofs.bests.compare.Goals as goal
 
-pub loop-i-init : goal.loop-i-init
-loop-i-init c = compared_none c.args.extreme c.args.index c.args.rows.now c.args.from c.args.base c.args.end (omega arith) (omega arith)
+pub loop-row-init : goal.loop-row-init
+loop-row-init c = compared_none c.args.extreme c.args.c c.args.group.now c.args.cuts.now
 
 pub keep-requires : goal.keep-requires
-keep-requires c = compared_rises c.args.extreme c.args.index c.args.rows.now c.args.from c.args.base c.args.end (omega arith) (omega arith) c.loop-i.i _ c.loop-i.invariant c.requires.rises
+keep-requires c = compared_rises c.args.extreme c.args.c c.args.group.now c.args.cuts.now c.loop-row.row-index _ c.loop-row.invariant c.requires
 
-pub loop-i-preserved : goal.loop-i-preserved
-loop-i-preserved c =
-    let fits : SFits w64 (value c.args.index (get_or c.loop-i.rows c.loop-i.i no_row)) = search rules in
-    compared_more c.args.extreme c.args.index c.args.rows.now c.args.from c.args.base c.args.end (omega arith) (omega arith) c.loop-i.i _ c.loop-i.invariant c.loop-i.auto.i (omega arith) _ _ (to_z-of_z w64 _ fits) c.keep.ensures
+pub loop-row-preserved : goal.loop-row-preserved
+loop-row-preserved c =
+    let fits : SFits w64 c.value_of.result = search rules in
+    compared_more c.args.extreme c.args.c c.args.group.now c.args.cuts.now c.loop-row.row-index c.loop-row.cuts c.keep.new.cuts _ (omega arith) c.loop-row.invariant (to_z-of_z w64 _ fits ∙ c.value_of.ensures) c.keep.ensures
+
+pub returns : goal.returns
+returns c = compared_all c.args.extreme c.args.c c.args.group.now c.args.cuts.now c.loop-row.row-index _ (omega arith) c.loop-row.invariant

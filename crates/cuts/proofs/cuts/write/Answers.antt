@@ -1,19 +1,17 @@
-use Rattle.std.proofs.Common.{sym, subst, arith}
+use Rattle.std.proofs.Common.{get_or, ◌∙◌, arith, rules}
+use Rattle.std.proofs.ByRecursion.{All-get_or}
+use Rattle.collect.specs.Areas.{no_row}
 use Rattle.cuts.specs.Amounts.{Within}
-use Rattle.cuts.proofs.Writing.{cuts_none, cuts_more, row_still}
-use Rattle.cuts.proofs.Parts.{at_part}
+use Rattle.cuts.proofs.Cutting.{closed_is}
+use Rattle.cuts.proofs.Writing.{cuts_more, cuts_all}
 use Rattle.cuts.proofs.cuts.write.Goals as goal
 
-pub loop-i-init : goal.loop-i-init
-loop-i-init c = cuts_none c.args.measure c.args.rows.now c.args.from c.args.base
-
-pub closing-requires : goal.closing-requires
-closing-requires c =
-    let still = row_still c.args.measure c.args.rows.now c.args.from c.args.base c.loop-i.i c.loop-i.auto.i (omega arith) (omega arith) _ c.loop-i.invariant in
-    record {
-      fits = c.requires.fits;
-      within = subst (Within c.args.measure) (sym still) (at_part (Within c.args.measure) c.args.rows.now _ c.args.from c.args.upto c.loop-i.i c.requires.within (omega arith) (omega arith) (omega arith));
-    }
-
 pub loop-i-preserved : goal.loop-i-preserved
-loop-i-preserved c = cuts_more c.args.measure c.args.rows.now c.args.from c.args.base c.loop-i.i c.loop-i.auto.i (omega arith) (omega arith) _ c.loop-i.invariant _ _ c.opening.ensures c.closing.ensures
+loop-i-preserved c =
+    let group = c.args.group.now in
+    let within = All-get_or (Within c.args.what) group c.loop-i.i no_row c.loop-i-test.true c.requires.within in
+    cuts_more c.args.what group c.args.cuts.now c.requires.room c.loop-i.i _ _ _ c.loop-i-test.true c.loop-i.invariant (search rules)
+    (c.cut-in-loop-i.ensures ∙ closed_is c.args.what (get_or group c.loop-i.i no_row) c.change_by-change.result within c.change_by-change.ensures)
+
+pub returns : goal.returns
+returns c = cuts_all c.args.what c.args.group.now c.args.cuts.now c.requires.room c.loop-i.i _ (omega arith) c.loop-i.invariant

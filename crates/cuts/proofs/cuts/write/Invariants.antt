@@ -3,4 +3,4 @@ use Rattle.cuts.proofs.Writing.{with_cuts}
 use Rattle.cuts.proofs.cuts.write.Given as goal
 
 abbrev pub invariant-loop-i : goal.invariant-loop-i
-invariant-loop-i l = l.rows ≡ with_cuts l.measure l.initial.rows l.from l.base l.i
+invariant-loop-i l = l.cuts ≡ with_cuts l.what l.group l.initial.cuts l.i

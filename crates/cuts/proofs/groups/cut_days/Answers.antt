@@ -1,21 +1,14 @@
-use Rattle.std.proofs.Common.{◌+◌, ◌-◌, ◌*◌, refl, arith}
-use Rattle.std.proofs.lemmas.List.Edits.{length-between}
-use Rattle.cuts.proofs.Cutting.{cuts_few, cuts_rise, cuts_small, cut_is}
+use Rattle.std.proofs.Common.{sym, ap, ◌∙◌, subst}
+use Rattle.std.specs.List.{AllByRecursion as AllOf}
+use Rattle.cuts.specs.Days.{Rises, sorted}
+use Rattle.cuts.specs.Totals.{Small}
+use Rattle.cuts.proofs.Cutting.{small_cuts}
+use Rattle.cuts.proofs.Sorting.{sorted_rises, all_sorted}
 use Rattle.cuts.proofs.groups.cut_days.Goals as goal
 
-pub sort-requires : goal.sort-requires
-sort-requires c = record { room = omega (arith, length-between c.write.new.rows c.args.base (c.args.base + 2 * (c.args.upto - c.args.from)) (omega arith)); few = omega arith }
+pub measure_cuts-requires-clause-rises : goal.measure_cuts-requires-clause-rises
+measure_cuts-requires-clause-rises c = subst Rises (sym c.sort.ensures) (sorted_rises c.write.new.cuts)
 
-pub measure_cuts-requires : goal.measure_cuts-requires
-measure_cuts-requires c =
-    let few = cuts_few c.args.measure c.args.rows.now c.args.from c.args.upto c.args.base (omega arith) (omega arith) (omega arith) _ _ _ c.write.ensures c.sort.ensures refl in
-    record {
-      order = (omega arith, (omega arith, (omega arith, omega arith)));
-      fits = c.requires.fits;
-      few = omega (arith, few);
-      rises = cuts_rise c.args.measure c.args.rows.now c.args.from c.args.upto c.args.base (omega arith) (omega arith) (omega arith) _ _ _ c.write.ensures c.sort.ensures refl;
-      small = cuts_small c.args.measure c.args.rows.now c.args.from c.args.upto c.args.base (omega arith) (omega arith) (omega arith) _ _ _ c.write.ensures c.sort.ensures refl c.requires.within;
-    }
-
-pub returns : goal.returns
-returns c = cut_is c.args.measure c.args.rows.now c.args.from c.args.upto c.args.base (omega arith) (omega arith) (omega arith) _ _ _ c.write.ensures c.sort.ensures refl _ c.measure_cuts.ensures
+pub measure_cuts-requires-clause-small : goal.measure_cuts-requires-clause-small
+measure_cuts-requires-clause-small c =
+    subst (AllOf Small) (sym (c.sort.ensures ∙ ap sorted c.write.ensures)) (all_sorted _ Small (small_cuts c.args.what c.args.group.now c.requires.within))

@@ -9,4 +9,4 @@ two_on : (all on end : List Text) (x y : Text) → all ≡ x ∷ on → on ≡ y
 two_on all on end x y p q t = sym (ap all_pairs (p ∙ ap (λ l. x ∷ l) q) ∙ ap (λ b. b && all_pairs end) (sym t))
 
 pub loop-one-preserved : goal.loop-one-preserved
-loop-one-preserved c = two_on _ _ _ _ _ (ap texts c.in-Some.ensures.cases) (ap texts c.in-Some-next.ensures.cases) c.if-not-is_pair.ensures ∙ c.loop-one.invariant
+loop-one-preserved c = two_on _ _ _ _ _ (ap texts c.in-Some.ensures.steps.1) (ap texts c.in-Some-next.ensures.steps.1) c.if-not-is_pair.ensures ∙ c.loop-one.invariant

@@ -1,15 +1,19 @@
-use Rattle.std.proofs.Common.{sym, ◌∙◌, arith}
-use Rattle.layers.proofs.SameKinds.{lengths_differ, kinds_more, kinds_stop, kinds_all}
+use Rattle.std.proofs.Common.{◌+◌, length, sym, ◌∙◌, arith, rules}
+use borrow.Author.Tests.{tests}
+use Rattle.std.proofs.lemmas.Bool.{ne_eqb}
+use Rattle.std.proofs.lemmas.Iterator.{YieldsList-from_range}
+use Rattle.std.proofs.lemmas.Iterator.Search.{all_from_yields_List}
+use Rattle.source.specs.Meaning.{cell}
+use Rattle.layers.specs.Alike.{alike}
+use Rattle.layers.proofs.SameKinds.{lengths_differ, by_columns}
 use Rattle.layers.proofs.kinds.same_kinds.Goals as goal
 
 pub returns-then-columns : goal.returns-then-columns
-returns-then-columns g c = sym (lengths_differ (g.L.Source.meaning c.args.left.now).kinds (g.R.Source.meaning c.args.right.now).kinds (λ e. c.if-columns.true (omega arith)))
+returns-then-columns g c =
+    let ks = (g.L.Source.meaning c.args.left.now).kinds in
+    let ls = (g.R.Source.meaning c.args.right.now).kinds in
+    all_from_yields_List (λ c. alike (cell ks c) (cell ls c)) _ _ c.all.result c.all.ensures.ran (YieldsList-from_range 1 (length ks + 1) (length ks) (cc) (omega arith)) (λ x b q k. search (rules, tests))
+    ∙ by_columns ks ls (omega arith)
 
-pub returns-then-not-alike : goal.returns-then-not-alike
-returns-then-not-alike g c = kinds_stop (g.L.Source.meaning c.args.left.now).kinds (g.R.Source.meaning c.args.right.now).kinds c.loop-c.c (omega arith) (omega arith) (cc) ∙ c.loop-c.invariant
-
-pub loop-c-preserved : goal.loop-c-preserved
-loop-c-preserved g c = kinds_more (g.L.Source.meaning c.args.left.now).kinds (g.R.Source.meaning c.args.right.now).kinds c.loop-c.c (omega arith) (omega arith) (cc) ∙ c.loop-c.invariant
-
-pub returns : goal.returns
-returns g c = kinds_all (g.L.Source.meaning c.args.left.now).kinds (g.R.Source.meaning c.args.right.now).kinds c.loop-c.c (omega arith) (omega arith) ∙ c.loop-c.invariant
+pub returns-else-columns : goal.returns-else-columns
+returns-else-columns g c = ne_eqb _ _ c.if-columns.false ∙ sym (lengths_differ (g.L.Source.meaning c.args.left.now).kinds (g.R.Source.meaning c.args.right.now).kinds (λ e. c.if-columns.false (omega arith)))

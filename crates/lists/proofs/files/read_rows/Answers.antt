@@ -1,29 +1,39 @@
-use Rattle.std.proofs.Common.{◌++◌, take, vec_items, sym, ap, ◌∙◌, append-nil}
+use Rattle.std.proofs.Common.{◌≡◌, ◌∷◌, [], ◌++◌, take, sym, ap, ◌∙◌, append-nil}
 use Rattle.std.proofs.lemmas.List.{take_all}
 use Rattle.relation.specs.Bounds.{most_work}
-use Rattle.relation.specs.Stored.{listed}
-use Rattle.words.specs.Words.{words}
-use Rattle.words.specs.Rest.{texts, lines_left}
-use Rattle.takers.specs.Take.{is_blank}
+use Rattle.words.specs.Rest.{lines_left}
 use Rattle.lists.specs.ListFiles.{row_in, rows_in}
-use Rattle.lists.proofs.Gathering.{passed, taken}
+use Rattle.lists.proofs.Gathering.{few_taken, line_read}
 use Rattle.lists.proofs.files.read_rows.Goals as goal
 
-pub loop-line-preserved-then-is_blank : goal.loop-line-preserved-then-is_blank
-loop-line-preserved-then-is_blank c =
-    let ks = listed c.args.kinds in
-    let next = ap (λ ls. take most_work (vec_items c.loop-line.rows ++ rows_in ks ls)) (sym c.in-Some.ensures.cases) in
-    (c.loop-line.invariant.0, passed most_work (vec_items c.loop-line.rows) (rows_in ks (lines_left c.next.new.self)) _ (is_blank (texts (words c.in-Some.line.now))) (row_in ks c.in-Some.line.now) (sym c.if-is_blank.ensures) (next ∙ c.loop-line.invariant.1))
+pub loop-line-preserved-in-Continue-1 : goal.loop-line-preserved-in-Continue-1
+loop-line-preserved-in-Continue-1 c =
+    let rows = c.loop-line.rows.items in
+    let row = row_in c.args.kinds.now c.in-Some.line.now in
+    let same = c.as_slice.ensures.value in
+    let is : c.push.new.self.items ≡ take most_work (rows ++ row) =
+        c.in_ok-push-in-Ok.ensures.items ∙ ap (λ l. l ++ c.in-Ok.row ∷ []) (sym same) ∙ c.in-Ok.ensures (few_taken most_work rows _ (same ∙ sym (take_all most_work rows c.loop-line.invariant.few))) ∙ ap (λ l. take most_work (l ++ row)) same in
+    record {
+      few = few_taken most_work (rows ++ row) _ is;
+      gathered = line_read most_work c.args.kinds.now rows _ _ (lines_left c.next.new.self) c.in-Some.line.now _ c.in-Some.ensures.steps (sym c.if-is_blank.ensures) is c.loop-line.invariant.gathered;
+    }
 
 pub loop-line-preserved : goal.loop-line-preserved
 loop-line-preserved c =
-    let ks = listed c.args.kinds in
-    let next = ap (λ ls. take most_work (vec_items c.loop-line.rows ++ rows_in ks ls)) (sym c.in-Some.ensures.cases) in
-    (c.take_line.ensures.few c.loop-line.invariant.0, taken most_work (vec_items c.loop-line.rows) (rows_in ks (lines_left c.next.new.self)) _ (is_blank (texts (words c.in-Some.line.now))) (row_in ks c.in-Some.line.now) _ (sym c.if-is_blank.ensures) (c.in_ok-refused.ensures.rows c.loop-line.invariant.0) (next ∙ c.loop-line.invariant.1))
+    let rows = c.loop-line.rows.items in
+    let row = row_in c.args.kinds.now c.in-Some.line.now in
+    let same = c.as_slice.ensures.value in
+    let is : rows ≡ take most_work (rows ++ row) =
+        sym same ∙ sym (append-nil _) ∙ c.in-Err.ensures (few_taken most_work rows _ (same ∙ sym (take_all most_work rows c.loop-line.invariant.few))) ∙ ap (λ l. take most_work (l ++ row)) same in
+    record {
+      few = c.loop-line.invariant.few;
+      gathered = line_read most_work c.args.kinds.now rows _ _ (lines_left c.next.new.self) c.in-Some.line.now _ c.in-Some.ensures.steps (sym c.if-is_blank.ensures) is c.loop-line.invariant.gathered;
+    }
 
 pub returns : goal.returns
 returns c =
-    let ks = listed c.args.kinds in
-    let items = vec_items c.loop-line.rows in
-    let none = ap (λ ls. take most_work (items ++ rows_in ks ls)) (sym c.in_default.ensures.cases.0) ∙ c.loop-line.invariant.1 in
-    sym (take_all most_work items c.loop-line.invariant.0) ∙ ap (take most_work) (sym (append-nil items)) ∙ none
+    let rows = c.loop-line.rows.items in
+    sym (take_all most_work rows c.loop-line.invariant.few)
+    ∙ ap (take most_work) (sym (append-nil rows))
+    ∙ sym (ap (λ ls. take most_work (rows ++ rows_in c.args.kinds.now ls)) c.in_default.ensures.steps.0)
+    ∙ c.loop-line.invariant.gathered

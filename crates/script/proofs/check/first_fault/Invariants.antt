@@ -1,12 +1,8 @@
-use Rattle.std.proofs.Common.{◌≡◌, ◌+◌, length}
+use Rattle.std.proofs.Common.{◌≡◌, ◌+◌, None}
 use Rattle.words.specs.Lines.{lines}
 use Rattle.words.specs.Rest.{lines_left}
-use Rattle.script.specs.declared.loads.Load.TheVariants.{Closed}
 use Rattle.script.specs.Faults.{fault}
 use Rattle.script.proofs.check.first_fault.Given as goal
 
-abbrev pub invariant-loop-line : goal.invariant-loop-line
-invariant-loop-line l = (l.n + length (lines_left l.lines) ≡ 1 + length (lines l.text)) × (fault l.n l.load (lines_left l.lines) ≡ fault 1 Closed (lines l.text))
-
-abbrev pub decreases-loop-line : goal.decreases-loop-line
-decreases-loop-line l = length (lines_left l.lines)
+abbrev pub invariant-loop-i : goal.invariant-loop-i
+invariant-loop-i l = fault (l.i-iterator.count + 1) l.load (lines_left l.i-iterator.iter) ≡ fault 1 None (lines l.text)

@@ -8,14 +8,13 @@ use Rattle.tally.proofs.calls.tally.Goals as goal
 pub returns-then-not-fits : goal.returns-then-not-fits
 returns-then-not-fits g c =
     let m = g.S.Source.meaning c.args.source.now in
-    inl (misfit m c.args.what c.args.by.now c.args.rows.now c.args.index.now (sym c.if-not-fits.ensures) ∙ ap (λ (e : Refusal). Some e) (sym c.plain.ensures), refl, refl)
+    inl (misfit m c.args.what c.args.by.now c.args.rows.now c.args.index.now (sym c.if-not-fits.ensures) ∙ ap (λ (e : Refusal). Some e) (sym c.into.ensures), refl, refl)
 
 pub tally_within-requires : goal.tally_within-requires
 tally_within-requires g c =
     let wide = part_size c.args.rows.now _ c.min-rows_end.result c.min-rows_end.ensures refl in
     let long = part_size c.args.index.now _ c.min-index_end.result c.min-index_end.ensures refl in
     record {
-      source = c.requires;
       fits = sym c.if-not-fits.ensures;
       rows_room = omega (arith, wide);
       index_room = omega (arith, long);
@@ -26,7 +25,7 @@ tally_within-requires g c =
 pub returns-then-count_filled-limit : goal.returns-then-count_filled-limit
 returns-then-count_filled-limit g c =
     let m = g.S.Source.meaning c.args.source.now in
-    inl (short m c.args.what c.args.by.now c.args.rows.now c.args.index.now (sym c.if-not-fits.ensures) (λ p q. omega arith) ∙ ap (λ (e : Refusal). Some e) (sym c.plain-then-count_filled-limit.ensures), refl, refl)
+    inl (short m c.args.what c.args.by.now c.args.rows.now c.args.index.now (sym c.if-not-fits.ensures) (λ p q. omega arith) ∙ ap (λ (e : Refusal). Some e) (sym c.into-then-count_filled-limit.ensures), refl, refl)
 
 pub returns : goal.returns
 returns g c =

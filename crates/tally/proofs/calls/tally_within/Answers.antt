@@ -1,19 +1,22 @@
 use Rattle.std.proofs.Common.{◌≤◌, length, sym, subst, arith}
+use Rattle.std.specs.List.{AllByRecursion as AllOf}
+use Rattle.std.proofs.ByRecursion.{All-from_get_or, All-map}
 use Rattle.relation.specs.Rows.{Period}
+use Rattle.relation.specs.Stored.{stored}
 use Rattle.source.specs.Meaning.{day_set}
 use Rattle.collect.specs.Areas.{bare}
 use Rattle.collect.specs.Collects.{counted}
+use Rattle.collect.proofs.Indexed.{no_spec}
 use Rattle.cuts.specs.Amounts.{Within}
-use Rattle.tally.specs.Results.{measure_of}
 use Rattle.tally.specs.Tallying.{TalliesSets}
-use Rattle.tally.proofs.Collected.{few_columns, columns, narrow, within, few_listed, period_listed, fits_listed, left_front, left_at}
+use Rattle.tally.proofs.Collected.{few_columns, columns, narrow, within, few_listed, fits_listed, left_front}
 use Rattle.tally.proofs.Whole.{collectable, not_refused}
 use Rattle.tally.proofs.calls.tally_within.Goals as goal
 
 pub tally_list-requires : goal.tally_list-requires
 tally_list-requires g c =
     let m = g.S.Source.meaning c.args.source.now in
-    let s = g.S.Source.sound c.args.source.now c.requires.source in
+    let s = g.S.Source.sound c.args.source.now in
     let n = c.in_ok-n.n in
     let left = c.in_ok-n.ensures.1 in
     let xs = left.part.list in
@@ -21,15 +24,15 @@ tally_list-requires g c =
     let count = left.part.count in
     let fewer = few_listed m s xs lists in
     let few : n ≤ counted c.args.rows.now = omega arith in
-    let at = left_at (day_set m) c.args.rows.now c.collect.new.rows c.args.index.now c.collect.new.index n left few in
+    let front = left_front (day_set m) c.args.rows.now c.collect.new.rows c.args.index.now c.collect.new.index n left few in
     record {
       rows_room = omega arith;
       index_room = omega arith;
       few_index = omega arith;
       few_columns = few_columns m s c.args.what c.args.by.now c.requires.fits;
       narrow = narrow m s c.args.what c.args.by.now c.requires.fits;
-      periods = λ i lt. subst (λ w. Period (bare w)) (sym (at i lt)) (period_listed m s xs lists i (omega arith));
-      within = λ i lt. subst (Within (measure_of c.args.what)) (sym (at i lt)) (within m s c.args.what c.args.by.now c.requires.fits _ (fits_listed m s xs lists i (omega arith)));
+      periods = subst (AllOf (λ w. Period (bare w))) (sym front) (All-map (λ w. Period (bare w)) stored xs lists.canonical.periods);
+      within = subst (AllOf (Within c.args.what)) (sym front) (All-map (Within c.args.what) stored xs (All-from_get_or (λ x. Within c.args.what (stored x)) xs no_spec (λ i lt. within m s c.args.what c.args.by.now c.requires.fits _ (fits_listed m s xs lists i lt))));
     }
 
 pub returns-in_err-n : goal.returns-in_err-n
@@ -40,7 +43,7 @@ returns-in_err-n g c =
 pub returns : goal.returns
 returns g c =
     let m = g.S.Source.meaning c.args.source.now in
-    let s = g.S.Source.sound c.args.source.now c.requires.source in
+    let s = g.S.Source.sound c.args.source.now in
     let n = c.in_ok-n.n in
     let left = c.in_ok-n.ensures.1 in
     let xs = left.part.list in

@@ -1,9 +1,9 @@
-use Rattle.std.proofs.Common.{◌≡◌, ◌-◌, length, take}
+use Rattle.std.proofs.Common.{◌≡◌, ◌-◌, length}
 use Rattle.tally.proofs.Running.{Running}
 use Rattle.tally.proofs.runs.tally_groups.Given as goal
 
 abbrev pub invariant-loop-from : goal.invariant-loop-from
-invariant-loop-from l = Running l.measure l.by l.n (take l.n l.initial.rows) l.rows l.from l.end × (length l.rows ≡ length l.initial.rows)
+invariant-loop-from l = Running l.what l.by l.rows l.out l.from l.made × (length l.out ≡ length l.initial.out)
 
 abbrev pub decreases-loop-from : goal.decreases-loop-from
-decreases-loop-from l = l.n - l.from
+decreases-loop-from l = length l.rows - l.from

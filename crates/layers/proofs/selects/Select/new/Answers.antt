@@ -7,4 +7,4 @@ pub returns : goal.returns
 returns g c =
     let m = g.S.Source.meaning c.args.source in
     let allowed : no_select m c.args.condition ≡ None = search rules in
-    (allowed, (refl, refl, record { below = c.requires; allowed = allowed }, selects m c.args.condition))
+    (allowed, (refl, refl, selects m c.args.condition))

@@ -1,9 +1,0 @@
-use Rattle.std.proofs.Common.{map, take}
-use Rattle.std.specs.List.{flat_map}
-use Rattle.relation.specs.Stored.{listed, meant}
-use Rattle.listing.specs.Pens.{Puts}
-use Rattle.listing.specs.Text.{row_text}
-use Rattle.listing.proofs.pen.Pen.put_rows.Given as goal
-
-abbrev pub invariant-loop-row : goal.invariant-loop-row
-invariant-loop-row l = Puts l.initial.self (flat_map (row_text (listed l.kinds)) (map (meant l.kinds.count) (take l.row-index l.rows))) l.self

@@ -1,0 +1,58 @@
+// What takes a text, part by part: one sink finds whether there is room for the whole, the other writes it.
+ghost use Rattle.std.specs.Prelude.{◌≡◌, List, ℕ, [], ◌++◌};
+ghost use Rattle.listing.specs.Sinks.{left_of, Extends};
+ghost use Rattle.listing.specs.SinkLaws.{left_nothing, left_both, extends_nothing, extends_both};
+
+pub(crate) trait Sink {
+    // Relates the sink before, the text that it takes, and the sink after.
+    ghost takes: { Self → List ℕ → Self → Type 0 };
+
+    fn put(&mut self, part: &[u8])
+        ensures { takes self.old part.now self.new };
+
+    // A text without a byte changes nothing.
+    ghost nothing: { (p : Self) → takes p [] p };
+
+    // To take two texts is to take the text that they are together.
+    ghost both: { (p q r : Self) (s t : List ℕ) → takes p s q → takes q t r → takes p (s ++ t) r };
+}
+
+// How many bytes are left for a text; none once it does not fit.
+#[derive(Clone, Copy)]
+pub(crate) struct Room(pub(crate) Option<usize>);
+
+impl Sink for Room {
+    ghost takes = { λ p text q. q.0 ≡ left_of p.0 text };
+
+    ghost nothing = { left_nothing };
+
+    ghost both = { left_both };
+
+    fn put(&mut self, part: &[u8]) {
+        self.0 = self.0.and_then(|left| left.checked_sub(part.len()));
+    }
+}
+
+// Lent bytes, and where the next part begins. What does not fit is not written.
+#[derive(Drop)]
+pub(crate) struct Output<'a> {
+    pub(crate) bytes: &'a mut [u8],
+    pub(crate) at: usize,
+}
+
+impl Sink for Output<'_> {
+    ghost takes = { Extends };
+
+    ghost nothing = { extends_nothing };
+
+    ghost both = { extends_both };
+
+    fn put(&mut self, part: &[u8]) {
+        let size = self.bytes.len();
+        if part.len() <= size && self.at <= size - part.len() {
+            let end = self.at + part.len();
+            self.bytes[self.at..end].copy_from_slice(part);
+            self.at = end;
+        }
+    }
+}
