@@ -58,10 +58,7 @@ impl Areas {
     fn publish(&mut self, register: &mut Register<'_>, slip: Slip) -> Result<usize, (Refusal, Slip)>
         ensures { GoesOn register.old.store register.new.store }
     {
-        let upto = self
-            .work_handed
-            .min(self.rows.len())
-            .min(self.index.len());
+        let upto = self.work_handed.min(self.rows.len()).min(self.index.len());
         let work = &mut self.rows.as_mut_slice()[..upto];
         let index = &mut self.index.as_mut_slice()[..upto];
         register.publish(slip, work, index)
