@@ -13,6 +13,7 @@ use join::pairs::Pair;
 use layers::selects::Select;
 use layers::windows::Window;
 use relation::conditions::{Condition, Sign, Term};
+use relation::days::Span;
 use relation::refusals::Refusal;
 use relation::rows::Row;
 use source::asks::Source;
@@ -27,52 +28,45 @@ const LATER: Condition = Condition {
     term: Term::Column(3),
 };
 
-// The watches without the days from `first` up to `end`.
-fn ask_outside(
-    all: Watches,
-    first: u32,
-    end: u32,
-) -> Result<Except<Watches, Window<Watches>>, Refusal>
-    ensures { Answers result (no_outside all.count first end) (λ p. IsPlan (⟦<Except<Watches, Window<Watches>> as Source>⟧.meaning p) (outside_plan (watches all.count) first end)) }
+// The watches without some days.
+fn ask_outside(all: Watches, days: Span) -> Result<Except<Watches, Window<Watches>>, Refusal>
+    ensures { Answers result (no_outside all.count days.first days.end) (λ p. IsPlan (⟦<Except<Watches, Window<Watches>> as Source>⟧.meaning p) (outside_plan (watches all.count) days.first days.end)) }
 {
-    let inside = Window::new(all, first, end)?;
+    let inside = Window::new(all, days)?;
     Except::new(all, inside)
 }
 
 // Each of these beside each watch of the same watchman that shares a day with it.
 fn ask_pairs(
     all: Watches,
-    first: u32,
-    end: u32,
+    days: Span,
 ) -> Result<Join<Except<Watches, Window<Watches>>, Watches>, Refusal>
-    ensures { Answers result (no_pairs all.count first end) (λ p. IsPlan (⟦<Join<Except<Watches, Window<Watches>>, Watches> as Source>⟧.meaning p) (pairs_plan (watches all.count) first end)) }
+    ensures { Answers result (no_pairs all.count days.first days.end) (λ p. IsPlan (⟦<Join<Except<Watches, Window<Watches>>, Watches> as Source>⟧.meaning p) (pairs_plan (watches all.count) days.first days.end)) }
 {
-    let outside = ask_outside(all, first, end)?;
+    let outside = ask_outside(all, days)?;
     Join::new(outside, all, &BY_WATCHMAN)
 }
 
-// Two watches of one watchman that share a day, the earlier one outside the days from `first` up to `end`.
+// Two watches of one watchman that share a day, the earlier one outside some days.
 fn ask_handovers(
     all: Watches,
-    first: u32,
-    end: u32,
+    days: Span,
 ) -> Result<Select<Join<Except<Watches, Window<Watches>>, Watches>>, Refusal>
-    ensures { Answers result (no_handovers all.count first end) (λ p. IsPlan (⟦<Select<Join<Except<Watches, Window<Watches>>, Watches>> as Source>⟧.meaning p) (handovers_plan (watches all.count) first end)) }
+    ensures { Answers result (no_handovers all.count days.first days.end) (λ p. IsPlan (⟦<Select<Join<Except<Watches, Window<Watches>>, Watches>> as Source>⟧.meaning p) (handovers_plan (watches all.count) days.first days.end)) }
 {
-    let pairs = ask_pairs(all, first, end)?;
+    let pairs = ask_pairs(all, days)?;
     Select::new(pairs, LATER)
 }
 
 // Lists the handovers of so many watches.
 pub fn list_handovers(
     count: usize,
-    first: u32,
-    end: u32,
+    days: Span,
     rows: &mut [Row],
     index: &mut [Node],
 ) -> Result<usize, Refusal>
-    ensures { Collects (collected (no_handovers count first end) (handovers_plan (watches count) first end) rows.old index.old) (handovers (watches count) first end) rows.old index.old result rows.new index.new }
+    ensures { Collects (collected (no_handovers count days.first days.end) (handovers_plan (watches count) days.first days.end) rows.old index.old) (handovers (watches count) days.first days.end) rows.old index.old result rows.new index.new }
 {
-    let asked = ask_handovers(Watches::new(count)?, first, end)?;
+    let asked = ask_handovers(Watches::new(count)?, days)?;
     collect(&asked, rows, index)
 }

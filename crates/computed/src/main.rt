@@ -27,10 +27,20 @@ use crate::watches::Watches;
 use collect::collects::collect;
 use layers::windows::Window;
 use plans::questions::{list_bare, list_out, list_uncovered};
+use relation::days::Span;
 use relation::refusals::Refusal;
 use relation::rows::Row;
 use std::io;
 use tree::Node;
+
+// The days on which the present watchmen's watches are asked for.
+const ASKED: Span = Span {
+    first: 10,
+    end: 100,
+};
+
+// The days that are left out.
+const AWAY: Span = Span { first: 45, end: 75 };
 
 // The areas that a list is made in.
 #[derive(Drop)]
@@ -55,37 +65,36 @@ impl Work {
         list_out(Watches::new(count)?, &mut self.rows, &mut self.index)
     }
 
-    // The same, but for the days from `first` up to `end`.
-    fn present(&mut self, count: usize, first: u32, end: u32) -> Result<usize, Refusal>
-        ensures { Collects (first_of (no_watches count) (first_of (no_window first end) (collected (no_bare (watches count) (windowed (watches count) first end)) (bare_plan (watches count) (windowed (watches count) first end)) self.old.rows self.old.index))) (bare (watches count) (windowed (watches count) first end)) self.old.rows self.old.index result self.new.rows self.new.index }
+    // The same, but for some days.
+    fn present(&mut self, count: usize, days: Span) -> Result<usize, Refusal>
+        ensures { Collects (first_of (no_watches count) (first_of (no_window days.first days.end) (collected (no_bare (watches count) (windowed (watches count) days.first days.end)) (bare_plan (watches count) (windowed (watches count) days.first days.end)) self.old.rows self.old.index))) (bare (watches count) (windowed (watches count) days.first days.end)) self.old.rows self.old.index result self.new.rows self.new.index }
     {
         let watches = Watches::new(count)?;
-        let absent = Window::new(watches, first, end)?;
+        let absent = Window::new(watches, days)?;
         list_bare(watches, absent, &mut self.rows, &mut self.index)
     }
 
     // The present watchmen with the numbers of their watches, on the days 10 to 100.
-    fn asked(&mut self, count: usize, first: u32, end: u32) -> Result<usize, Refusal>
-        ensures { Collects (first_of (no_watches count) (first_of (no_window first end) (collected (no_uncovered (watches count) (windowed (watches count) first end) (watches count) 10 100) (uncovered_plan (watches count) (windowed (watches count) first end) (watches count) 10 100) self.old.rows self.old.index))) (uncovered (watches count) (windowed (watches count) first end) (watches count) 10 100) self.old.rows self.old.index result self.new.rows self.new.index }
+    fn asked(&mut self, count: usize, days: Span) -> Result<usize, Refusal>
+        ensures { Collects (first_of (no_watches count) (first_of (no_window days.first days.end) (collected (no_uncovered (watches count) (windowed (watches count) days.first days.end) (watches count) 10 100) (uncovered_plan (watches count) (windowed (watches count) days.first days.end) (watches count) 10 100) self.old.rows self.old.index))) (uncovered (watches count) (windowed (watches count) days.first days.end) (watches count) 10 100) self.old.rows self.old.index result self.new.rows self.new.index }
     {
         let watches = Watches::new(count)?;
-        let absent = Window::new(watches, first, end)?;
+        let absent = Window::new(watches, days)?;
         list_uncovered(
             watches,
             absent,
             watches,
-            10,
-            100,
+            ASKED,
             &mut self.rows,
             &mut self.index,
         )
     }
 
-    // Two watches of one watchman that share a day, the earlier one outside the days from `first` up to `end`.
-    fn handovers(&mut self, count: usize, first: u32, end: u32) -> Result<usize, Refusal>
-        ensures { Collects (collected (no_handovers count first end) (handovers_plan (watches count) first end) self.old.rows self.old.index) (handovers (watches count) first end) self.old.rows self.old.index result self.new.rows self.new.index }
+    // Two watches of one watchman that share a day, the earlier one outside some days.
+    fn handovers(&mut self, count: usize, days: Span) -> Result<usize, Refusal>
+        ensures { Collects (collected (no_handovers count days.first days.end) (handovers_plan (watches count) days.first days.end) self.old.rows self.old.index) (handovers (watches count) days.first days.end) self.old.rows self.old.index result self.new.rows self.new.index }
     {
-        list_handovers(count, first, end, &mut self.rows, &mut self.index)
+        list_handovers(count, days, &mut self.rows, &mut self.index)
     }
 
     // Prints the list that was made, with so many columns, or why it was refused.
@@ -121,17 +130,17 @@ fn main(rt: HostRuntime) -> io::Result<()> {
     work.show(&rt, "watches", 2, made)?;
     let made = work.watchmen(11);
     work.show(&rt, "watchmen", 1, made)?;
-    let made = work.present(11, 45, 75);
+    let made = work.present(11, AWAY);
     work.show(&rt, "present", 1, made)?;
-    let made = work.asked(11, 45, 75);
+    let made = work.asked(11, AWAY);
     work.show(&rt, "asked", 2, made)?;
-    let made = work.handovers(11, 45, 75);
+    let made = work.handovers(11, AWAY);
     work.show(&rt, "handovers", 3, made)?;
     // More filled places than work rows, more than 1,000,000,000 places, and a watch that ends after the last day.
     let made = work.watches(99_998);
     work.show(&rt, "all watches", 2, made)?;
-    let made = work.present(99_998, 45, 75);
+    let made = work.present(99_998, AWAY);
     work.show(&rt, "all present", 1, made)?;
-    let made = work.handovers(99_999, 45, 75);
+    let made = work.handovers(99_999, AWAY);
     work.show(&rt, "too many", 3, made)
 }

@@ -3,7 +3,7 @@ use Rattle.std.proofs.Common.{◌≡◌, ℕ, zero, suc, ◌+◌, ◌<◌, ◌�
 use Rattle.std.proofs.lemmas.Bool.{cases_lt, cases_Bool, or_cases, eq-eqb, false≢true, true≢false}
 use Rattle.relation.specs.Sets.{Tuple}
 use Rattle.source.specs.Meaning.{Meaning}
-use Rattle.except.specs.declared.blockers.Span.{Span}
+use Rattle.relation.specs.declared.days.Span.{Span}
 use Rattle.except.specs.Blockers.{blocker, candidate, is?, repeated}
 use Rattle.except.proofs.Pieces.{repeated_decides, is_some, candidate_next, within_from}
 use Rattle.except.proofs.FreeDays.{Blocker}

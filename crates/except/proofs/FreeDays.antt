@@ -6,7 +6,7 @@ use Rattle.relation.specs.Sets.{Tuple, equal}
 use Rattle.relation.specs.Rows.{SpecRow}
 use Rattle.relation.proofs.TupleSets.{equal_decides}
 use Rattle.source.specs.Meaning.{Meaning, Sound, On}
-use Rattle.except.specs.declared.blockers.Span.{Span}
+use Rattle.relation.specs.declared.days.Span.{Span}
 use Rattle.except.specs.Blockers.{span, having, blocker, holds?, blocked, sooner, stop}
 use Rattle.except.proofs.Pieces.{blocked_decides}
 

@@ -4,7 +4,7 @@ use Rattle.std.proofs.lemmas.Bool.{or_cases, or_left, or_right, and_parts, and_f
 use Rattle.std.proofs.lemmas.Bool.Decides.{same_from_decides, Decides-or, Decides-like, Decides-below_or}
 use Rattle.relation.specs.Sets.{Tuple}
 use Rattle.source.specs.Meaning.{Meaning}
-use Rattle.except.specs.declared.blockers.Span.{Span}
+use Rattle.relation.specs.declared.days.Span.{Span}
 use Rattle.except.specs.Blockers.{blocker, within, candidate, holds?, blocked, is?, repeated, bars?, barred, stop, scanned, piece_from, piece}
 use Rattle.except.specs.Sounds.{within_inside}
 use Rattle.except.proofs.Scanned.{barred_decides}

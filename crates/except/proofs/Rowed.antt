@@ -5,8 +5,9 @@ use Rattle.relation.specs.Rows.{SpecRow}
 use Rattle.relation.specs.Stored.{stored}
 use Rattle.source.specs.Meaning.{Meaning, Sound, row?, row_of}
 use Rattle.source.proofs.Cells.{fits_length}
-use Rattle.except.specs.declared.blockers.Span.{Span}
-use Rattle.except.specs.Blockers.{span, days_of, piece}
+use Rattle.relation.specs.declared.days.Span.{Span}
+use Rattle.relation.specs.Days.{days_of}
+use Rattle.except.specs.Blockers.{span, piece}
 use Rattle.except.specs.Excepts.{dated, pieced, excepted}
 use Rattle.except.proofs.Tupled.{tuple_of}
 

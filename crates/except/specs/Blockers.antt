@@ -1,17 +1,12 @@
 -- Blockers of a row: the rows of a source b with its tuple t. Only their days matter.
 use Rattle.std.specs.Prelude.{ℕ, zero, suc, ◌+◌, ◌-◌, min, Bool, false, cond, ◌&&◌, ◌||◌, Some, None, Option, ◌==◌, nat_le, nat_lt}
-use Rattle.relation.specs.declared.rows.Row.{Row}
 use Rattle.relation.specs.Sets.{Tuple, equal}
 use Rattle.relation.specs.Rows.{SpecRow}
 use Rattle.source.specs.Meaning.{Meaning}
-use Rattle.except.specs.declared.blockers.Span.{Span}
+use Rattle.relation.specs.declared.days.Span.{Span}
 
 abbrev pub span : SpecRow → Span
 span r = record { first = r.first; end = r.end }
-
--- the days of a stored row
-abbrev pub days_of : Row → Span
-days_of w = record { first = w.first; end = w.end }
 
 -- the row's days, if it has the tuple t
 abbrev pub having : Tuple → Option SpecRow → Option Span

@@ -5,7 +5,7 @@ use Rattle.relation.specs.Sets.{Tuple}
 use Rattle.relation.specs.Rows.{SpecRow}
 use Rattle.layers.specs.Checks.{no_pair}
 use Rattle.source.specs.Meaning.{Meaning}
-use Rattle.except.specs.declared.blockers.Span.{Span}
+use Rattle.relation.specs.declared.days.Span.{Span}
 use Rattle.except.specs.Blockers.{span, piece}
 
 -- the row with tuple t and these days

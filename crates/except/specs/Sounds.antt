@@ -6,7 +6,7 @@ use Rattle.relation.specs.Bounds.{most_places}
 use Rattle.relation.specs.Sets.{Tuple}
 use Rattle.relation.specs.Rows.{SpecRow}
 use Rattle.source.specs.Meaning.{Meaning, Sound, fits}
-use Rattle.except.specs.declared.blockers.Span.{Span}
+use Rattle.relation.specs.declared.days.Span.{Span}
 use Rattle.except.specs.Blockers.{span, blocker, within, candidate, blocked, repeated, sooner, stop, piece_from}
 use Rattle.except.specs.Excepts.{dated, pieced, excepted}
 

@@ -1,27 +1,9 @@
 // The blockers of a row: the rows of a source that have its tuple.
 ghost use Rattle.std.specs.Prelude.{◌≡◌, ◌≤◌, length};
-ghost use Rattle.except.specs.Blockers.{days_of, blocker, candidate, bars?, sooner, scanned, piece};
+ghost use Rattle.except.specs.Blockers.{blocker, candidate, bars?, sooner, scanned, piece};
 
-use relation::rows::Row;
+use relation::days::Span;
 use source::asks::Source;
-
-// The days from `first` up to, and without, `end`.
-#[derive(Clone, Copy)]
-pub struct Span {
-    pub first: u32,
-    pub end: u32,
-}
-
-impl From<Row> for Span {
-    ghost from_gives = { λ row days. days ≡ days_of row };
-
-    fn from(row: Row) -> Span {
-        Span {
-            first: row.first,
-            end: row.end,
-        }
-    }
-}
 
 // Whether the blocker holds the day, or ends on it and is of a lower piece.
 fn bars(blocker: Option<Span>, day: u32, lower: bool) -> bool

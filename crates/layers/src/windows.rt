@@ -4,7 +4,7 @@ ghost use Rattle.relation.specs.Refusals.{Answers};
 ghost use Rattle.layers.specs.Windows.{windowed, no_window, Windows};
 ghost use Rattle.layers.specs.Soundness.{windowed_sound};
 
-use relation::days::is_period;
+use relation::days::{Span, is_period};
 use relation::kinds::Kind;
 use relation::refusals::{Reason, Refusal};
 use relation::rows::Row;
@@ -13,29 +13,28 @@ use source::asks::Source;
 #[derive(Drop)]
 pub struct Window<S: Source> {
     source: S,
-    first: u32,
-    end: u32,
-    ghost allowed: { no_window first end ≡ None },
+    days: Span,
+    ghost allowed: { no_window days.first days.end ≡ None },
 }
 
 impl<S: Source> Window<S> {
-    // The source during the days from `first` up to, and without, `end`.
-    pub fn new(source: S, first: u32, end: u32) -> Result<Window<S>, Refusal>
+    // The source during some days.
+    pub fn new(source: S, days: Span) -> Result<Window<S>, Refusal>
     where
         S: Drop,
-        ensures { Answers result (no_window first end) (λ s. (s.source ≡ source) × (s.first ≡ first) × (s.end ≡ end) × Windows (S.Source.meaning source) first end) }
+        ensures { Answers result (no_window days.first days.end) (λ s. (s.source ≡ source) × (s.days ≡ days) × Windows (S.Source.meaning source) days.first days.end) }
     {
-        if !is_period(first, end) {
+        if !is_period(days.first, days.end) {
             return Err(Reason::NoPeriod.into());
         }
-        Ok(Window { source, first, end })
+        Ok(Window { source, days })
     }
 }
 
 impl<S: Source> Source for Window<S> {
-    ghost meaning = { λ s. windowed (S.Source.meaning s.source) s.first s.end };
+    ghost meaning = { λ s. windowed (S.Source.meaning s.source) s.days.first s.days.end };
 
-    ghost sound = { λ s. windowed_sound (S.Source.meaning s.source) s.first s.end (S.Source.sound s.source) };
+    ghost sound = { λ s. windowed_sound (S.Source.meaning s.source) s.days.first s.days.end (S.Source.sound s.source) };
 
     fn columns(&self) -> usize {
         self.source.columns()
@@ -64,8 +63,8 @@ impl<S: Source> Source for Window<S> {
 
     fn row(&self, k: usize) -> Option<Row> {
         let row = self.source.row(k)?;
-        let first = self.first.max(row.first);
-        let end = self.end.min(row.end);
+        let first = self.days.first.max(row.first);
+        let end = self.days.end.min(row.end);
         let values = row.values;
         (first < end).then_some(Row { first, end, values })
     }

@@ -7,6 +7,7 @@ use layers::selects::Select;
 use layers::unions::Union;
 use layers::windows::Window;
 use relation::conditions::{Condition, Sign, Term};
+use relation::days::Span;
 use relation::kinds::Kind;
 use relation::refusals::Refusal;
 use relation::rows::Row;
@@ -17,8 +18,7 @@ use std::io;
 #[derive(Clone, Copy)]
 struct Question<'a> {
     condition: Condition,
-    first: u32,
-    end: u32,
+    days: Span,
     columns: &'a [usize],
 }
 
@@ -32,7 +32,7 @@ fn listed<'a>(
     question: Question<'_>,
 ) -> Result<Listed<'a>, Refusal> {
     let select = Select::new(Table::open(rows, kinds)?, question.condition)?;
-    let window = Window::new(Table::open(others, kinds)?, question.first, question.end)?;
+    let window = Window::new(Table::open(others, kinds)?, question.days)?;
     let left = Project::new(Part::Whole(select), question.columns)?;
     let right = Project::new(Part::During(window), question.columns)?;
     Union::new(left, right)
@@ -73,8 +73,7 @@ fn main(rt: HostRuntime) -> io::Result<()> {
     };
     let question = Question {
         condition,
-        first: 6,
-        end: 9,
+        days: Span { first: 6, end: 9 },
         columns: &[2, 1, 2],
     };
     print_listed(&rt, question)?;
@@ -100,7 +99,13 @@ fn main(rt: HostRuntime) -> io::Result<()> {
             ..question
         },
     )?;
-    print_listed(&rt, Question { end: 6, ..question })?;
+    print_listed(
+        &rt,
+        Question {
+            days: Span { first: 6, end: 6 },
+            ..question
+        },
+    )?;
     print_listed(
         &rt,
         Question {

@@ -11,6 +11,7 @@ use join::joins::Join;
 use join::pairs::Pair;
 use layers::projects::Project;
 use layers::windows::Window;
+use relation::days::Span;
 use relation::refusals::Refusal;
 use relation::rows::Row;
 use source::asks::Source;
@@ -54,18 +55,17 @@ fn ask_valued<H: Source + Drop, C: Source + Drop, V: Source + Drop>(
     Join::new(left, values, &BY_INSTRUMENT)
 }
 
-// The same on the days from `first` up to, and without, `end`.
+// The same on some days.
 fn ask_uncovered<H: Source + Drop, C: Source + Drop, V: Source + Drop>(
     hires: H,
     covers: C,
     values: V,
-    first: u32,
-    end: u32,
+    days: Span,
 ) -> Result<Window<Join<Except<Project<H>, Project<C>>, V>>, Refusal>
-    ensures { Answers result (no_uncovered (H.Source.meaning hires) (C.Source.meaning covers) (V.Source.meaning values) first end) (λ p. IsPlan (⟦<Window<Join<Except<Project<H>, Project<C>>, V>> as Source>⟧.meaning p) (uncovered_plan (H.Source.meaning hires) (C.Source.meaning covers) (V.Source.meaning values) first end)) }
+    ensures { Answers result (no_uncovered (H.Source.meaning hires) (C.Source.meaning covers) (V.Source.meaning values) days.first days.end) (λ p. IsPlan (⟦<Window<Join<Except<Project<H>, Project<C>>, V>> as Source>⟧.meaning p) (uncovered_plan (H.Source.meaning hires) (C.Source.meaning covers) (V.Source.meaning values) days.first days.end)) }
 {
     let joined = ask_valued(hires, covers, values)?;
-    Window::new(joined, first, end)
+    Window::new(joined, days)
 }
 
 // Lists the instruments that were out.
@@ -107,19 +107,18 @@ pub fn list_valued<H: Source + Drop, C: Source + Drop, V: Source + Drop>(
     collect(&asked, rows, index)
 }
 
-// Lists the same on the days from `first` up to, and without, `end`.
+// Lists the same on some days.
 pub fn list_uncovered<H: Source + Drop, C: Source + Drop, V: Source + Drop>(
     hires: H,
     covers: C,
     values: V,
-    first: u32,
-    end: u32,
+    days: Span,
     rows: &mut [Row],
     index: &mut [Node],
 ) -> Result<usize, Refusal>
-    ensures { Collects (collected (no_uncovered (H.Source.meaning hires) (C.Source.meaning covers) (V.Source.meaning values) first end) (uncovered_plan (H.Source.meaning hires) (C.Source.meaning covers) (V.Source.meaning values) first end) rows.old index.old) (uncovered (H.Source.meaning hires) (C.Source.meaning covers) (V.Source.meaning values) first end) rows.old index.old result rows.new index.new }
+    ensures { Collects (collected (no_uncovered (H.Source.meaning hires) (C.Source.meaning covers) (V.Source.meaning values) days.first days.end) (uncovered_plan (H.Source.meaning hires) (C.Source.meaning covers) (V.Source.meaning values) days.first days.end) rows.old index.old) (uncovered (H.Source.meaning hires) (C.Source.meaning covers) (V.Source.meaning values) days.first days.end) rows.old index.old result rows.new index.new }
 {
-    let asked = ask_uncovered(hires, covers, values, first, end)?;
+    let asked = ask_uncovered(hires, covers, values, days)?;
     collect(&asked, rows, index)
 }
 
@@ -128,14 +127,13 @@ pub fn total_uncovered<H: Source + Drop, C: Source + Drop, V: Source + Drop>(
     hires: H,
     covers: C,
     values: V,
-    first: u32,
-    end: u32,
+    days: Span,
     by: &[usize],
     rows: &mut [Row],
     index: &mut [Node],
 ) -> Result<usize, Refusal>
-    ensures { Tallies (totalled (no_uncovered (H.Source.meaning hires) (C.Source.meaning covers) (V.Source.meaning values) first end) (uncovered_plan (H.Source.meaning hires) (C.Source.meaning covers) (V.Source.meaning values) first end) by.now rows.old index.old) total_value by.now (uncovered (H.Source.meaning hires) (C.Source.meaning covers) (V.Source.meaning values) first end) rows.old index.old result rows.new index.new }
+    ensures { Tallies (totalled (no_uncovered (H.Source.meaning hires) (C.Source.meaning covers) (V.Source.meaning values) days.first days.end) (uncovered_plan (H.Source.meaning hires) (C.Source.meaning covers) (V.Source.meaning values) days.first days.end) by.now rows.old index.old) total_value by.now (uncovered (H.Source.meaning hires) (C.Source.meaning covers) (V.Source.meaning values) days.first days.end) rows.old index.old result rows.new index.new }
 {
-    let asked = ask_uncovered(hires, covers, values, first, end)?;
+    let asked = ask_uncovered(hires, covers, values, days)?;
     tally(&asked, Tally::Sum(2), by, rows, index)
 }

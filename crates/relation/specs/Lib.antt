@@ -6,6 +6,7 @@ pub mod Refusals
 pub mod Lists
 pub mod Sets
 pub mod Rows
+pub mod Days
 pub mod Operations
 pub mod Theorems
 pub mod Stored

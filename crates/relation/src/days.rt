@@ -3,6 +3,28 @@ ghost use Rattle.std.specs.Prelude.{◌≡◌};
 ghost use Rattle.relation.specs.Rows.{is_period};
 
 use crate::bounds::END_OF_DAYS;
+use crate::rows::Row;
+
+// The days from `first` up to, and without, `end`. Nothing says that there are any.
+#[derive(Clone, Copy, PartialEq, Eq, Debug)]
+pub struct Span {
+    pub first: u32,
+    pub end: u32,
+}
+
+// The days of a row.
+impl From<Row> for Span {
+    ghost use Rattle.relation.specs.Days.{days_of};
+
+    ghost from_gives = { λ row days. days ≡ days_of row };
+
+    fn from(row: Row) -> Span {
+        Span {
+            first: row.first,
+            end: row.end,
+        }
+    }
+}
 
 // Whether the days from `first` up to, and without, `end` are a period.
 pub fn is_period(first: u32, end: u32) -> bool

@@ -10,6 +10,7 @@ use lists::show::ListText;
 use plans::questions::{list_bare, list_out, list_uncovered, list_valued};
 use relation::bounds::MOST_WORK;
 use relation::columns::Kinds;
+use relation::days::Span;
 use relation::kinds::Kind;
 use relation::refusals::Refusal;
 use relation::rows::Row;
@@ -64,8 +65,7 @@ fn answer(
     hires: &List,
     covers: &List,
     values: &List,
-    first: u32,
-    end: u32,
+    days: Span,
 ) -> anyhow::Result<()> {
     let out = hires.open()?;
     let covered = covers.open()?;
@@ -86,9 +86,9 @@ fn answer(
     let (rows, index) = work.lend();
     let count = list_valued(out, covered, valued, rows, index)?;
     show(rt, "valued", both, work.list(count))?;
-    println!(rt; "from day {first} up to day {end}:")?;
+    println!(rt; "from day {} up to day {}:", days.first, days.end)?;
     let (rows, index) = work.lend();
-    let count = list_uncovered(out, covered, valued, first, end, rows, index)?;
+    let count = list_uncovered(out, covered, valued, days, rows, index)?;
     show(rt, "asked", both, work.list(count))
 }
 
@@ -109,7 +109,7 @@ fn run(rt: &HostRuntime) -> anyhow::Result<()> {
     let values = load(rt, values.as_str())?;
     let first = first.as_str().parse::<u32>()?;
     let end = end.as_str().parse::<u32>()?;
-    answer(rt, &hires, &covers, &values, first, end)
+    answer(rt, &hires, &covers, &values, Span { first, end })
 }
 
 fn main(rt: HostRuntime) -> anyhow::Result<()> {

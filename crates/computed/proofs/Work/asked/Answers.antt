@@ -8,8 +8,8 @@ use Rattle.computed.proofs.Work.asked.Goals as goal
 
 pub returns : goal.returns
 returns c =
-    let first = c.args.first in
-    let end = c.args.end in
+    let first = c.args.days.first in
+    let end = c.args.days.end in
     let rows = c.args.self.now.rows in
     let index = c.args.self.now.index in
     let new = c.in_ok-watches.ensures in

@@ -15,5 +15,5 @@ returns c =
     let a = c.in_ok-pairs.ensures in
     let p = c.in_ok-pairs.pairs in
     let m = joined_of (pairs_of (items p.pairs)) (excepted (watches p.left.left.count) (windowed (watches p.left.right.source.count) p.left.right.first p.left.right.end)) (watches p.right.count) in
-    selected_plan later (no_pairs n c.args.first c.args.end) (pairs_plan (watches n) c.args.first c.args.end) m _ _ c.new.result
+    selected_plan later (no_pairs n c.args.days.first c.args.days.end) (pairs_plan (watches n) c.args.days.first c.args.days.end) m _ _ c.new.result
     a.0 a.1 (λ x w i. selected (joined_of (pairs_of (items (w.0 i).pairs)) (excepted (watches (w.0 i).left.left.count) (windowed (watches (w.0 i).left.right.source.count) (w.0 i).left.right.first (w.0 i).left.right.end)) (watches (w.0 i).right.count)) (w.1 i)) c.new.ensures

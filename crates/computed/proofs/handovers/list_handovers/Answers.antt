@@ -8,8 +8,8 @@ use Rattle.computed.proofs.handovers.list_handovers.Goals as goal
 
 pub returns : goal.returns
 returns c =
-    let first = c.args.first in
-    let end = c.args.end in
+    let first = c.args.days.first in
+    let end = c.args.days.end in
     let rows = c.args.rows.now in
     let index = c.args.index.now in
     let n = c.in_ok-new.field-0.count in

@@ -5,5 +5,5 @@ use Rattle.layers.proofs.windows.Window.new.Goals as goal
 
 pub returns : goal.returns
 returns g c =
-    let allowed : no_window c.args.first c.args.end ≡ None = search rules in
-    (allowed, (refl, refl, refl, windows (g.S.Source.meaning c.args.source) c.args.first c.args.end))
+    let allowed : no_window c.args.days.first c.args.days.end ≡ None = search rules in
+    (allowed, (refl, refl, windows (g.S.Source.meaning c.args.source) c.args.days.first c.args.days.end))
