@@ -14,8 +14,9 @@ ghost use Rattle.cuts.specs.Totals.{Small};
 use crate::amounts::add_up;
 use crate::bests::{Extreme, compare};
 use crate::cuts::write;
-use crate::days::sort;
+use crate::days::ByDay;
 use crate::stretches::emit;
+use collect::sorting::sort;
 use relation::rows::Row;
 use tallies::rules::Tally;
 use tree::Node;
@@ -44,7 +45,7 @@ fn cut_days(group: &[Row], cuts: &mut [Row], nodes: &mut [Node], what: Tally)
     ensures { cuts.new ≡ cut_days what group.now }
 {
     write(group, cuts, what);
-    sort(cuts, nodes);
+    sort(cuts, nodes, &ByDay);
     measure_cuts(group, cuts, what);
 }
 

@@ -6,7 +6,6 @@ mod tests {
     use lists::header::read_header;
     use lists::is_blank;
     use lists::rows::read_row;
-    use relation::columns::Kinds;
     use relation::kinds::Kind;
     use std::test::Fail;
     use words::lines::Lines;
@@ -15,42 +14,33 @@ mod tests {
 
     // The number of the reason why a header is refused, or 0.
     fn header(line: &[u8]) -> u32 {
-        match read_header(line) {
-            Ok(_) => 0,
-            Err(reason) => reason.number(),
-        }
+        read_header(line).map_or_else(|reason| reason.number(), |_| 0)
     }
 
-    fn row(line: &[u8], count: usize) -> u32 {
-        let kinds = Kinds {
-            count,
-            at: [
-                Kind::Number,
-                Kind::Word,
-                Kind::Number,
-                Kind::Number,
-                Kind::Number,
-                Kind::Number,
-            ],
-        };
-        match read_row(line, kinds) {
-            Ok(_) => 0,
-            Err(reason) => reason.number(),
-        }
+    const TWO: [Kind; 2] = [Kind::Number, Kind::Word];
+
+    // One kind more than a relation may have.
+    const SEVEN: [Kind; 7] = [
+        Kind::Number,
+        Kind::Word,
+        Kind::Number,
+        Kind::Number,
+        Kind::Number,
+        Kind::Number,
+        Kind::Number,
+    ];
+
+    // The number of the reason why a row is refused, or 0.
+    fn row(line: &[u8], kinds: &[Kind]) -> u32 {
+        read_row(line, kinds).map_or_else(|reason| reason.number(), |_| 0)
     }
 
     fn place(word: Option<Word>) -> usize {
-        match word {
-            Some(word) => word.place,
-            None => 99,
-        }
+        word.map_or(99, |word| word.place)
     }
 
     fn size(line: Option<&[u8]>) -> usize {
-        match line {
-            Some(line) => line.len(),
-            None => 99,
-        }
+        line.map_or(99, |line| line.len())
     }
 
     #[test]
@@ -68,37 +58,29 @@ mod tests {
 
     #[test]
     fn rows(rt: HostRuntime) {
-        assert_eq!(rt; row(b"0 10 7 'v1'", 2), 0);
-        assert_eq!(rt; row(b"0 10", 2), 2);
-        assert_eq!(rt; row(b"0 10 07 'v1'", 2), 2);
-        assert_eq!(rt; row(b"0 10 -0 'v1'", 2), 2);
-        assert_eq!(rt; row(b"0 10 12345678901234 'v1'", 2), 2);
-        assert_eq!(rt; row(b"0 10 7 'v1", 2), 2);
-        assert_eq!(rt; row(b"0 10 7", 2), 4);
-        assert_eq!(rt; row(b"0 10 7 7", 2), 4);
-        assert_eq!(rt; row(b"9 9 7 7 7 7 7 7 7", 7), 4);
-        assert_eq!(rt; row(b"9 9 9999999999999 'v1'", 2), 5);
-        assert_eq!(rt; row(b"0 1000001 7 'v1'", 2), 5);
-        assert_eq!(rt; row(b"0 1000000 1000000000000 'v1'", 2), 0);
-        assert_eq!(rt; row(b"0 1000000 -1000000000001 'v1'", 2), 6);
+        assert_eq!(rt; row(b"0 10 7 'v1'", &TWO), 0);
+        assert_eq!(rt; row(b"0 10", &TWO), 2);
+        assert_eq!(rt; row(b"0 10 07 'v1'", &TWO), 2);
+        assert_eq!(rt; row(b"0 10 -0 'v1'", &TWO), 2);
+        assert_eq!(rt; row(b"0 10 12345678901234 'v1'", &TWO), 2);
+        assert_eq!(rt; row(b"0 10 7 'v1", &TWO), 2);
+        assert_eq!(rt; row(b"0 10 7", &TWO), 4);
+        assert_eq!(rt; row(b"0 10 7 7", &TWO), 4);
+        assert_eq!(rt; row(b"9 9 7 7 7 7 7 7 7", &SEVEN), 4);
+        assert_eq!(rt; row(b"9 9 9999999999999 'v1'", &TWO), 5);
+        assert_eq!(rt; row(b"0 1000001 7 'v1'", &TWO), 5);
+        assert_eq!(rt; row(b"0 1000000 1000000000000 'v1'", &TWO), 0);
+        assert_eq!(rt; row(b"0 1000000 -1000000000001 'v1'", &TWO), 6);
     }
 
     #[test]
     fn held(rt: HostRuntime) -> Result<(), Fail> {
-        let kinds = Kinds {
-            count: 1,
-            at: [Kind::Word; 6],
-        };
-        match read_row(b"999999 1000000 'a'", kinds) {
-            Ok(row) => {
-                assert_eq!(rt; row.first, 999999);
-                assert_eq!(rt; row.end, 1000000);
-                assert_eq!(rt; row.values[0], 6989586621679009792);
-                assert_eq!(rt; row.values[5], 0);
-                Ok(())
-            }
-            Err(_) => Err(Fail::new("refused")),
-        }
+        let row = read_row(b"999999 1000000 'a'", &[Kind::Word]).map_err(|_| Fail::new("refused"))?;
+        assert_eq!(rt; row.first, 999999);
+        assert_eq!(rt; row.end, 1000000);
+        assert_eq!(rt; row.values[0], 6989586621679009792);
+        assert_eq!(rt; row.values[5], 0);
+        Ok(())
     }
 
     #[test]

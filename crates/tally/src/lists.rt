@@ -11,10 +11,11 @@ ghost use Rattle.cuts.specs.Amounts.{Within};
 ghost use Rattle.tally.specs.Results.{Narrow};
 ghost use Rattle.tally.specs.Tallying.{TalliesSets};
 
-use crate::gathers::gather;
+use crate::gathers::ByColumns;
 use crate::runs::tally_groups;
 use crate::sums::sums_fit;
 use collect::listing::list_rows;
+use collect::sorting::sort;
 use relation::refusals::{Reason, Refusal};
 use relation::rows::Row;
 use tallies::rules::Tally;
@@ -48,7 +49,7 @@ pub fn tally_list(
     ensures { (xs : List SpecRow) (f : ℕ → TupleSet) → take n rows.old ≡ map stored xs → Lists xs f → AllOf (λ c. c ≤ most_columns) by.now → TalliesSets what by.now f (length rows.old) (length index.old) result rows.new index.new }
 {
     let (listed, out) = rows.split_at_mut(n);
-    gather(listed, index, by);
+    sort(listed, index, &ByColumns { by });
     let made = tally_groups(listed, out, index, by, what);
     if !sums_fit(what, &out[..made], by.len()) {
         blank_all(rows, index);
