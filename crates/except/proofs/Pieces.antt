@@ -52,9 +52,6 @@ module _ (b : Meaning) (t : Tuple) (r : Span) where
   pub candidate_next : (p : ℕ) → candidate b t r (p + 1) ≡ within r (blocker b t p)
   candidate_next p = let back : p + 1 - 1 ≡ p = omega arith in candidate_later (p + 1) (omega arith) ∙ ap (λ q. within r (blocker b t q)) back
 
-  pub candidate_first : candidate b t r 0 ≡ Some r.first
-  candidate_first = refl
-
   -- ---- at the candidate c of place j
 
   module _ (c j n : ℕ) (begins : candidate b t r j ≡ Some c) (few : j ≤ n) where

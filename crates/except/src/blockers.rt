@@ -51,12 +51,8 @@ impl<S: Source> Blockers<'_, S> {
         if j == 0 {
             return Some(days.first);
         }
-        let s = self.get(j - 1)?;
-        if days.first < s.end && s.end < days.end {
-            Some(s.end)
-        } else {
-            None
-        }
+        let end = self.get(j - 1)?.end;
+        (days.first < end && end < days.end).then_some(end)
     }
 
     // The end of the piece of a row that begins on the day: the earliest first day of a blocker after it,
@@ -66,6 +62,7 @@ impl<S: Source> Blockers<'_, S> {
     {
         let n = self.source.places();
         let mut least = end;
+        // `seek` gives each next place, and a place tells which piece it is of: an iterator of rows tells neither.
         let mut p = self.source.seek(0, self.tuple);
         while p < n {
             let found = self.get(p);

@@ -17,7 +17,7 @@ fn row(first: u32, end: u32, values: [i64; 6]) -> Row {
     Row { first, end, values }
 }
 
-// Writes the rows of a source from filled place to filled place, each with its place.
+// Writes the rows of a source, each with its place, which an iterator of rows does not tell.
 fn write_rows<S: Source>(rt: &impl Print, source: &S) -> io::Result<()> {
     let places = source.places();
     let mut k = source.seek(0, &[]);

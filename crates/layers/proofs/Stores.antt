@@ -16,7 +16,7 @@ use Rattle.relation.specs.Stored.{firsts, stored}
 use Rattle.relation.specs.Operations.{compares, valued, meets}
 use Rattle.source.specs.Meaning.{Meaning, Sound, cell, row?, row_of}
 use Rattle.layers.specs.Alike.{alike}
-use Rattle.layers.specs.Selects.{kept, selected, term_kind, TermInRow, NamesInRow, no_select}
+use Rattle.layers.specs.Selects.{kept, selected, term_kind, no_select}
 use Rattle.layers.specs.Soundness.{passed}
 
 pub get_d_firsts : {X : Type 0} (n : ℕ) (xs : List X) (d : X) (i : ℕ) → i < n → get_or (firsts n xs d) i d ≡ get_or xs i d
@@ -30,6 +30,19 @@ pub column_stored : (c : ℕ) (t : Tuple) → c ≤ most_columns → column c (f
 column_stored c t h = get_d_firsts most_columns t (pos 0) (c - 1) (omega arith)
 
 -- ---- a condition
+
+-- a row has room for the column
+abbrev pub InRow : ℕ → Type 0
+InRow c = (1 ≤ c) × (c ≤ most_columns)
+
+-- a row has room for the columns that a term or a condition names
+abbrev pub TermInRow : Term → Type 0
+TermInRow (Number z) = Unit {0}
+TermInRow (Word z) = Unit {0}
+TermInRow (Column c) = InRow c
+
+abbrev pub NamesInRow : Condition → Type 0
+NamesInRow q = InRow q.column × TermInRow q.term
 
 valued_stored : (o : Term) (t : Tuple) → TermInRow o → valued o (firsts most_columns t (pos 0)) ≡ valued o t
 valued_stored (Number z) t h = refl

@@ -11,10 +11,6 @@ is_column n c = nat_le 1 c && nat_le c n
 abbrev pub are_columns : ℕ → List ℕ → Bool
 are_columns n cs = nat_le 1 (length cs) && (nat_le (length cs) most_columns && list_all (is_column n) cs)
 
--- a row has room for the column
-abbrev pub InRow : ℕ → Type 0
-InRow c = (1 ≤ c) × (c ≤ most_columns)
-
 -- the first n of the columns are 1, 2 and so on, and the next one is not
 pub record InPlace (cs : List ℕ) (n : ℕ) : Type 0 where
   pub few : n ≤ length cs

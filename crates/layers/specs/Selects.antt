@@ -13,7 +13,6 @@ use Rattle.relation.specs.Sets.{Same}
 use Rattle.relation.specs.Operations.{meets, select}
 use Rattle.source.specs.Meaning.{Meaning, kind_of, day_set}
 use Rattle.layers.specs.Alike.{alike}
-use Rattle.layers.specs.Columns.{InRow}
 
 -- the row if its tuple meets the condition
 abbrev pub kept : Condition → Option SpecRow → Option SpecRow
@@ -34,15 +33,6 @@ abbrev pub in_bounds : Term → Bool
 in_bounds (Number z) = in_kind kind.Number z
 in_bounds (Word z) = in_kind kind.Word z
 in_bounds (Column c) = true
-
--- a row has room for the columns that a term or a condition names
-abbrev pub TermInRow : Term → Type 0
-TermInRow (Number z) = Unit {0}
-TermInRow (Word z) = Unit {0}
-TermInRow (Column c) = InRow c
-
-abbrev pub NamesInRow : Condition → Type 0
-NamesInRow q = InRow q.column × TermInRow q.term
 
 -- the reason against a select, the first that applies
 abbrev pub no_select : Meaning → Condition → Option Reason

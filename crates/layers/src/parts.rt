@@ -6,6 +6,7 @@ use relation::kinds::Kind;
 use relation::rows::Row;
 use source::asks::Source;
 
+// Each question goes to the source that is held: an enum keeps it in place, where a `dyn Source` would have to be lent.
 #[derive(Drop)]
 pub enum Part<S: Source> {
     Whole(S),
