@@ -10,7 +10,7 @@ use relation::kinds::Kind;
 use relation::refusals::Refusal;
 use relation::rows::Row;
 use std::alloc::{AllocError, Global};
-use tree::Node;
+use workspace::Workspace;
 
 // How many entries the work areas and the output have.
 const WORK: usize = 64;
@@ -20,8 +20,7 @@ const OUTPUT: usize = 1024;
 // The areas that calls are handed, and how much of each.
 #[derive(Drop)]
 pub struct Areas {
-    rows: Vec<Row>,
-    index: Vec<Node>,
+    work: Workspace,
     output: Vec<u8>,
     work_handed: usize,
     output_handed: usize,
@@ -37,8 +36,7 @@ pub struct Bench<'a> {
 impl Areas {
     pub fn new(heap: Global) -> Result<Areas, AllocError> {
         Ok(Areas {
-            rows: vec![in heap; Row::blank(); WORK]?,
-            index: vec![in heap; Node::blank(); WORK]?,
+            work: Workspace::new(heap, WORK)?,
             output: vec![in heap; 0; OUTPUT]?,
             work_handed: WORK,
             output_handed: OUTPUT,
@@ -58,10 +56,9 @@ impl Areas {
     fn publish(&mut self, register: &mut Register<'_>, slip: Slip) -> Result<usize, (Refusal, Slip)>
         ensures { GoesOn register.old.store register.new.store }
     {
-        let upto = self.work_handed.min(self.rows.len()).min(self.index.len());
-        let work = &mut self.rows.as_mut_slice()[..upto];
-        let index = &mut self.index.as_mut_slice()[..upto];
-        register.publish(slip, work, index)
+        let (rows, index) = self.work.lend();
+        let upto = self.work_handed.min(rows.len()).min(index.len());
+        register.publish(slip, &mut rows[..upto], &mut index[..upto])
     }
 
     fn show(&mut self, register: &Register<'_>, name: &[u8]) -> Result<Answer, Failure> {
