@@ -18,6 +18,7 @@ pub fn coalesce(rows: &mut [Row]) -> usize
         return 0;
     }
     let mut last = 0;
+    // By index: the library merges neighbours in a Vec alone, and these rows are lent.
     for i in 1..rows.len() {
         let row = rows[i];
         let open = rows[last];

@@ -2,7 +2,6 @@
 #![tactic(auto)]
 
 pub mod arrange;
-pub mod blanks;
 pub mod coalesce;
 pub mod collects;
 pub mod keys;

@@ -1,8 +1,8 @@
 -- The changes at the cuts are added up, from turn to turn.
-use Rattle.std.proofs.Common.{◌≡◌, ℕ, ◌+◌, ◌*◌, ◌<◌, ◌≤◌, List, [], ◌∷◌, ◌++◌, length, get_or, take, drop, set, ℤ, pos, ◌+ℤ◌, neg_ℤ, nat_abs, ◌≤ℤ◌, sym, refl, ap, ◌∙◌, subst, ap₂, arith, w64, SFits, to_z, of_z}
+use Rattle.std.proofs.Common.{◌≡◌, ℕ, ◌+◌, ◌*◌, ◌<◌, ◌≤◌, List, [], ◌∷◌, ◌++◌, length, get_or, take, drop, set, ℤ, pos, ◌+ℤ◌, neg_ℤ, nat_abs, ◌≤ℤ◌, sym, ap, ◌∙◌, subst, arith, w64, SFits, to_z, of_z}
 use Rattle.std.specs.List.{AllByRecursion as AllOf}
 use Rattle.std.proofs.ByRecursion.{All-get_or}
-use Rattle.std.proofs.lemmas.List.{append-nil, append_assoc, drop_more, drop_all, drop-set-lt, take_all, take_more_set, at_drop_more}
+use Rattle.std.proofs.lemmas.List.{append_assoc, drop_more, drop-set-lt, take_more_set, at_drop_more}
 use Rattle.std.proofs.lemmas.Int.{ints, to_z-of_z}
 use Rattle.relation.specs.declared.rows.Row.{Row}
 use Rattle.collect.specs.Areas.{no_row}
@@ -34,13 +34,7 @@ pub record Adding (before after : List Row) (i : ℕ) (n z : ℤ) : Type 0 where
   pub z_low : neg_ℤ (pos (i * nat_abs largest_number)) ≤ℤ z
   pub z_high : z ≤ℤ pos (i * nat_abs largest_number)
 
-pub adding_none : (cs : List Row) → Adding cs cs 0 (pos 0) (pos 0)
-adding_none cs = record { front = refl; rest = refl; n_low = omega (arith, ints); n_high = omega (arith, ints); z_low = omega (arith, ints); z_high = omega (arith, ints) }
-
 module _ (before after : List Row) (i : ℕ) (n z : ℤ) (a : Adding before after i n z) (same : length after ≡ length before) where
-  pub adding_all : length before ≤ i → after ≡ totals (pos 0) (pos 0) before
-  adding_all le = sym (append-nil after) ∙ ap₂ (λ xs ys. xs ++ totals n z ys) (sym (take_all i after (omega arith))) (sym (drop_all i before le)) ∙ a.front
-
   module _ (lt : i < length before) where
     -- the next cut is as it was
     cut_still : get_or after i no_row ≡ get_or before i no_row

@@ -1,9 +1,10 @@
 -- The value of a row is taken into the cuts that it holds, from turn to turn.
 use Rattle.std.proofs.Common.{◌≡◌, ℕ, ◌+◌, ◌-◌, ◌<◌, ◌≤◌, true, false, ltb, leb, List, [], ◌∷◌, ◌++◌, map, length, get_or, take, drop, set, ℤ, sym, refl, ap, ◌∙◌, subst, ap₂, arith}
+use borrow.Rule.Slice.PartMut.{put_mid}
 use Rattle.std.specs.List.{AllByRecursion as AllOf}
 use Rattle.std.proofs.ByRecursion.{All-from_get_or}
 use Rattle.std.proofs.lemmas.List.Edits.{map_over_more}
-use Rattle.std.proofs.lemmas.List.{take-append-drop, get_or-take, get_or-drop, get_or-append_right, get_or_default, length-take, length-take-le, length-drop, length-map, map-append}
+use Rattle.std.proofs.lemmas.List.{append-nil, drop_all, take_all, take-append-drop, get_or-take, get_or-drop, get_or-append_right, get_or_default, length-take, length-take-le, length-drop, length-map, map-append}
 use Rattle.std.proofs.lemmas.Bool.{and_left, and_right, lt-leb, le-leb, lt-ltb, le-ltb, and_from, cond-true, cond-false}
 use Rattle.relation.specs.declared.rows.Row.{Row}
 use Rattle.relation.specs.Rows.{holds}
@@ -32,14 +33,8 @@ module _ (e : Extreme) (z : ℤ) (w : Row) (before : List Row) where
     pub parts : after ≡ map f (take i before) ++ drop i before
     pub reached : (k : ℕ) → i ≤ k → k < length before → w.first ≤ (get_or before k no_row).first
 
-  pub keeping_none : (i : ℕ) → i ≤ length before → ((k : ℕ) → k < i → (get_or before k no_row).first < w.first) → ((k : ℕ) → i ≤ k → k < length before → w.first ≤ (get_or before k no_row).first) → Keeping before i
-  keeping_none i le low high = record { parts = sym (take-append-drop i before) ∙ ap (λ xs. xs ++ drop i before) (sym (same_map f (take i before) same)); reached = high }
-    where
-      same : AllOf (λ c. f c ≡ c) (take i before)
-      same =
-          All-from_get_or (λ c. f c ≡ c) (take i before) no_row
-          (λ k lt. let l : k < i = omega (arith, length-take i before) in
-          subst (λ c. f c ≡ c) (sym (get_or-take i before k no_row l)) (cond-false _ _ _ (not_yet w (get_or before k no_row).first (low k l))))
+  pub keeping_none : ((k : ℕ) → k < length before → w.first ≤ (get_or before k no_row).first) → Keeping before 0
+  keeping_none high = record { parts = refl; reached = λ k le lt. high k lt }
 
   module _ (after : List Row) (i : ℕ) (a : Keeping after i) where
     -- what is not done stays as it is, from a cut at or after the end on
@@ -74,3 +69,37 @@ module _ (e : Extreme) (z : ℤ) (w : Row) (before : List Row) where
         where
           held : holds (bare w) c.first ≡ true
           held = and_from (leb w.first c.first) (ltb c.first w.end) (le-leb w.first c.first (omega (arith, a.reached i (omega arith) lt, ap (λ r. r.first) next_still))) (lt-ltb c.first w.end under)
+
+-- ---- the cuts that are not before the row
+
+module _ (cuts : List Row) (begun : ℕ) (le : begun ≤ length cuts) where
+  abbrev pub left : List Row
+  left = take (length cuts - begun) (drop begun cuts)
+
+  left_is : left ≡ drop begun cuts
+  left_is = take_all (length cuts - begun) (drop begun cuts) (omega (arith, length-drop begun cuts))
+
+  left_at : (k : ℕ) → get_or left k no_row ≡ get_or cuts (begun + k) no_row
+  left_at k = ap (λ cs. get_or cs k no_row) left_is ∙ get_or-drop begun cuts k no_row
+
+  left_long : length left ≡ length cuts - begun
+  left_long = ap length left_is ∙ length-drop begun cuts
+
+  pub left_reached : (w : Row) → ((k : ℕ) → begun ≤ k → k < length cuts → w.first ≤ (get_or cuts k no_row).first) → (k : ℕ) → k < length left → w.first ≤ (get_or left k no_row).first
+  left_reached w high k lt = omega (arith, ap (λ c. c.first) (left_at k), high (begun + k) (omega arith) (omega (arith, left_long)))
+
+  pub left_rises : Rises cuts → Rises left
+  left_rises rises i j a lt = omega (arith, ap (λ c. c.first) (left_at i), ap (λ c. c.first) (left_at j), rises (begun + i) (begun + j) (omega arith) (omega (arith, left_long)))
+
+  -- those before it stay as they are
+  pub kept_whole : (e : Extreme) (z : ℤ) (w : Row) (items : List Row) → ((k : ℕ) → k < begun → (get_or cuts k no_row).first < w.first) → items ≡ map (kept_by_row e z w) left → put_mid begun (length cuts - begun) cuts items ≡ map (kept_by_row e z w) cuts
+  kept_whole e z w items low is =
+      ap₂ (λ xs ys. xs ++ ys) (sym (same_map (kept_by_row e z w) (take begun cuts) same))
+      (ap (λ ys. items ++ ys) (drop_all (length cuts - begun) (drop begun cuts) (omega (arith, length-drop begun cuts))) ∙ append-nil items ∙ is ∙ ap (map (kept_by_row e z w)) left_is)
+      ∙ sym (map-append (kept_by_row e z w) (take begun cuts) (drop begun cuts)) ∙ ap (map (kept_by_row e z w)) (take-append-drop begun cuts)
+    where
+      same : AllOf (λ c. kept_by_row e z w c ≡ c) (take begun cuts)
+      same =
+          All-from_get_or (λ c. kept_by_row e z w c ≡ c) (take begun cuts) no_row
+          (λ k lt. let l : k < begun = omega (arith, length-take begun cuts) in
+          subst (λ c. kept_by_row e z w c ≡ c) (sym (get_or-take begun cuts k no_row l)) (cond-false _ _ _ (not_yet w (get_or cuts k no_row).first (low k l))))

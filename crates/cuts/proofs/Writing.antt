@@ -23,9 +23,6 @@ module _ (m : Tally) (group e : List Row) where
   abbrev pub with_cuts : ℕ → List Row
   with_cuts i = cuts_of m (take i group) ++ drop (2 * i) e
 
-  pub cuts_none : e ≡ with_cuts 0
-  cuts_none = refl
-
   pub cuts_more : length e ≡ 2 * length group → (i : ℕ) (rows : List Row) (o c : Row) → i < length group → rows ≡ with_cuts i → o ≡ opened m (get_or group i no_row) → c ≡ closed m (get_or group i no_row) → set (set rows (2 * i) o) (2 * i + 1) c ≡ with_cuts (i + 1)
   cuts_more room i rows o c lt is p q =
       let w : Row = get_or group i no_row in

@@ -42,11 +42,12 @@ fn keep(cuts: &mut [Row], row: &Row, value: i64, extreme: Extreme)
     requires { Rises cuts.old }
     ensures { cuts.new ≡ map (kept_by_row extreme value row.now) cuts.old }
 {
-    for i in cuts.partition_point(|cut| cut.first < row.first)..cuts.len() {
-        if cuts[i].first >= row.end {
+    let begun = cuts.partition_point(|cut| cut.first < row.first);
+    for cut in &mut cuts[begun..] {
+        if cut.first >= row.end {
             break;
         }
-        cuts[i] = keep_at(&cuts[i], value, extreme);
+        *cut = keep_at(cut, value, extreme);
     }
 }
 

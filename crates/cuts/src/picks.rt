@@ -20,8 +20,8 @@ pub fn pick(values: &[i64; 6], by: &[usize]) -> [i64; 6]
     ensures { result ≡ firsts most_columns (picked by.now values.now) (pos 0) }
 {
     let mut picks = [0; 6];
-    for i in 0..by.len().min(MOST_COLUMNS) {
-        picks[i] = value_of(values, by[i]);
+    for (i, c) in by[..by.len().min(MOST_COLUMNS)].iter().enumerate() {
+        picks[i] = value_of(values, *c);
     }
     picks
 }

@@ -25,6 +25,7 @@ pub fn emit(cuts: &mut [Row], group: &Row, by: &[usize]) -> usize
     ensures stretches { take result cuts.new ≡ stretches_by group.now by.now cuts.old }
 {
     let mut made = 0;
+    // By index: a row is written over a cut that was read before.
     for i in 1..cuts.len() {
         let cut = cuts[i - 1];
         let next = cuts[i];

@@ -1,7 +1,6 @@
 -- The steps of tallying a list put together: the rows are gathered, tallied, moved to the front and listed.
 use Rattle.std.proofs.Common.{◌≡◌, ℕ, ◌+◌, ◌-◌, ◌<◌, ◌≤◌, List, ◌++◌, map, length, get_or, take, sym, ap, ◌∙◌, subst, arith}
 use Rattle.std.specs.List.{AllByRecursion as AllOf}
-use Rattle.std.proofs.ByRecursion.{All-get_or, All-from_get_or}
 use Rattle.std.proofs.lemmas.List.{ext_get_or, get_or-take, get_or-append_right, length-append, length-take-le}
 use Rattle.relation.specs.declared.rows.Row.{Row}
 use Rattle.relation.specs.Bounds.{most_columns}
@@ -16,7 +15,7 @@ use Rattle.tallies.specs.Tallies.{tally, Disjoint}
 use Rattle.tallies.proofs.RowsTallied.{disjoint_from_coalesced}
 use Rattle.tally.specs.Gathered.{gathered, Together}
 use Rattle.tally.specs.Results.{Narrow, Results}
-use Rattle.tally.proofs.Gathering.{length_gathered, gathered_together, all_gathered, regrouped, gathered_stored, disjoint_regrouped, same_regrouped}
+use Rattle.tally.proofs.Gathering.{gathered_together, all_gathered, regrouped, gathered_stored, disjoint_regrouped, same_regrouped}
 use Rattle.tally.proofs.DaySets.{made_tidy, same_sets}
 
 -- the canonical list of some sets is that of sets with the same members

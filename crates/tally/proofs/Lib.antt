@@ -1,5 +1,6 @@
 pub mod Shuffled
 pub mod Gathering
+pub mod Ending
 pub mod Measuring
 pub mod DaySets
 pub mod Running

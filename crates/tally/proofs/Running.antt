@@ -69,16 +69,6 @@ pub record Running (m : Tally) (by : List ℕ) (ws out : List Row) (from made : 
   pub sound : (k d : ℕ) → k < made → Holds (bare (get_or out k no_row)) d → (i : ℕ) × ((i < length ws) × (Holds (bare (get_or ws i no_row)) d × Says m by ws d (get_or ws i no_row) (get_or out k no_row)))
   pub whole : (i d : ℕ) → i < from → Holds (bare (get_or ws i no_row)) d → (k : ℕ) × ((k < made) × Says m by ws d (get_or ws i no_row) (get_or out k no_row))
 
-pub running_none : (m : Tally) (by : List ℕ) (ws out : List Row) → Running m by ws out 0 0
-running_none m by ws out = record {
-  reached = omega arith;
-  few = omega arith;
-  fresh = λ i a b e. omega arith;
-  periods = λ k a. absurd (omega arith);
-  sound = λ k d a h. absurd (omega arith);
-  whole = λ i d a h. absurd (omega arith);
-}
-
 module _ (m : Tally) (by : List ℕ) (ws out : List Row) (from made : ℕ) (a : Running m by ws out from made) where
   -- at the end
   pub running_all : length ws ≤ from → made ≤ length out → Results m by ws (take made out)

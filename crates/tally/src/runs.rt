@@ -22,12 +22,9 @@ fn group_end(rows: &[Row], by: &[usize], from: usize) -> usize
     ensures { Run by.now rows.now from result }
 {
     let group = pick(&rows[from].values, by);
-    for i in from + 1..rows.len() {
-        if pick(&rows[i].values, by) != group {
-            return i;
-        }
-    }
-    rows.len()
+    let left = &rows[from..];
+    let more = left.iter().position(|row| pick(&row.values, by) != group);
+    from + more.unwrap_or(left.len())
 }
 
 // Tallies rows whose groups stand together: writes the rows of each group's tally to the start of `out`, one group after the other;

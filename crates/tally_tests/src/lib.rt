@@ -2,7 +2,7 @@
 #![tactic(auto)]
 
 use layers::projects::Project;
-use relation::columns::Kinds;
+use relation::kinds::Kind;
 use relation::refusals::Refusal;
 use relation::rows::Row;
 use source::tables::Table;
@@ -13,7 +13,7 @@ use tree::Node;
 // Tallies plain rows of some kinds.
 pub fn tally_rows(
     rows: &[Row],
-    kinds: Kinds,
+    kinds: &[Kind],
     what: Tally,
     by: &[usize],
     work: &mut [Row],
@@ -26,7 +26,7 @@ pub fn tally_rows(
 // Counts what some columns of plain rows hold.
 pub fn count_projected(
     rows: &[Row],
-    kinds: Kinds,
+    kinds: &[Kind],
     columns: &[usize],
     work: &mut [Row],
     index: &mut [Node],
@@ -38,7 +38,6 @@ pub fn count_projected(
 #[cfg(test)]
 mod tests {
     use super::*;
-    use relation::kinds::Kind;
     use relation::refusals::Reason;
     use std::process::Abort;
     use std::test::Fail;
@@ -48,19 +47,8 @@ mod tests {
 
     const B: i64 = 98 << 56;
 
-    // Two columns at the most.
-    fn kinds(count: usize, first: Kind, second: Kind) -> Kinds {
-        let mut at = [second; 6];
-        at[0] = first;
-        Kinds { count, at }
-    }
-
     fn row(first: u32, end: u32, a: i64, b: i64) -> Row {
-        Row {
-            first,
-            end,
-            values: [a, b, 0, 0, 0, 0],
-        }
+        wide(first, end, a, b, 0)
     }
 
     fn wide(first: u32, end: u32, a: i64, b: i64, c: i64) -> Row {
@@ -76,15 +64,9 @@ mod tests {
         row(3, 5, 77, 88)
     }
 
-    fn same(rt: &impl Abort, got: &Row, want: &Row) {
-        assert_eq!(rt; got.first, want.first);
-        assert_eq!(rt; got.end, want.end);
-        assert!(rt; got.values == want.values);
-    }
-
     fn all_blank(rt: &impl Abort, rows: &[Row], index: &[Node]) -> Result<(), Fail> {
         for row in rows {
-            same(rt, row, &Row::blank());
+            assert_eq!(rt; row, &Row::blank());
         }
         for node in index {
             assert!(rt; node.left == 0 && node.right == 0 && node.place == 0);
@@ -97,7 +79,7 @@ mod tests {
     fn gives(
         rt: &impl Abort,
         rows: &[Row],
-        kinds: Kinds,
+        kinds: &[Kind],
         what: Tally,
         by: &[usize],
         want: &[Row],
@@ -107,7 +89,7 @@ mod tests {
         let count = tally_rows(rows, kinds, what, by, &mut work, &mut index)?;
         assert_eq!(rt; count, want.len());
         for (got, want) in work.iter().zip(want) {
-            same(rt, got, want);
+            assert_eq!(rt; got, want);
         }
         assert!(rt; count <= 12);
         all_blank(rt, &work[count..12], &index)
@@ -116,7 +98,7 @@ mod tests {
     fn refused_by(
         rt: &impl Abort,
         rows: &[Row],
-        kinds: Kinds,
+        kinds: &[Kind],
         what: Tally,
         by: &[usize],
         reason: Reason,
@@ -128,7 +110,7 @@ mod tests {
             Err(refusal) => {
                 assert_eq!(rt; refusal.reason, reason);
                 for row in &work {
-                    same(rt, row, &mark());
+                    assert_eq!(rt; row, &mark());
                 }
                 Ok(())
             }
@@ -138,7 +120,7 @@ mod tests {
     #[test]
     fn counts_and_sums_each_day(rt: HostRuntime) -> Result<(), Fail> {
         let rows = [row(0, 4, 1, 0), row(2, 6, 2, 0)];
-        let one = kinds(1, Kind::Number, Kind::Number);
+        let one = &[Kind::Number];
         gives(
             &rt,
             &rows,
@@ -176,7 +158,7 @@ mod tests {
 
     #[test]
     fn counts_tuples_and_not_rows(rt: HostRuntime) -> Result<(), Fail> {
-        let one = kinds(1, Kind::Number, Kind::Number);
+        let one = &[Kind::Number];
         gives(
             &rt,
             &[row(0, 4, 7, 0), row(2, 6, 7, 0)],
@@ -196,17 +178,17 @@ mod tests {
         let mut work = [mark(); 12];
         let mut index = [Node::blank(); 12];
         let rows = [row(0, 4, 1, 10), row(2, 6, 1, 20)];
-        let both = kinds(2, Kind::Number, Kind::Number);
+        let both = &[Kind::Number, Kind::Number];
         let count = count_projected(&rows, both, &[1], &mut work, &mut index)?;
         assert_eq!(rt; count, 1);
-        same(&rt, &work[0], &row(0, 6, 1, 0));
+        assert_eq!(rt; work[0], row(0, 6, 1, 0));
         Ok(())
     }
 
     #[test]
     fn keeps_groups_apart(rt: HostRuntime) -> Result<(), Fail> {
         let rows = [row(0, 4, B, 5), row(1, 3, A, 2), row(2, 6, B, -3)];
-        let both = kinds(2, Kind::Word, Kind::Number);
+        let both = &[Kind::Word, Kind::Number];
         gives(
             &rt,
             &rows,
@@ -246,7 +228,7 @@ mod tests {
 
     #[test]
     fn holds_sums_to_the_bounds(rt: HostRuntime) -> Result<(), Fail> {
-        let one = kinds(1, Kind::Number, Kind::Number);
+        let one = &[Kind::Number];
         let large = row(0, 4, 1_000_000_000_000, 0);
         gives(
             &rt,
@@ -277,7 +259,7 @@ mod tests {
     #[test]
     fn says_why_it_refuses(rt: HostRuntime) -> Result<(), Fail> {
         let rows = [row(0, 4, A, 1), row(2, 6, B, 2)];
-        let both = kinds(2, Kind::Word, Kind::Number);
+        let both = &[Kind::Word, Kind::Number];
         refused_by(&rt, &rows, both, Tally::Sum(1), &[], Reason::Misfit)?;
         refused_by(&rt, &rows, both, Tally::Max(3), &[], Reason::Misfit)?;
         refused_by(&rt, &rows, both, Tally::Count, &[0], Reason::Misfit)?;

@@ -5,4 +5,4 @@ use Rattle.relation.specs.Stored.{firsts}
 use Rattle.cuts.proofs.picks.pick.Given as goal
 
 abbrev pub invariant-loop-i : goal.invariant-loop-i
-invariant-loop-i l = l.picks ≡ firsts most_columns (picked (take l.i l.by) l.values) (pos 0)
+invariant-loop-i l = l.picks ≡ firsts most_columns (picked (take l.i l.c-items) l.values) (pos 0)
