@@ -4,5 +4,6 @@
 pub mod list;
 mod numbers;
 mod rows;
+pub mod show;
 mod sinks;
 pub mod theorems;

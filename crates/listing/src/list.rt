@@ -22,7 +22,7 @@ fn letter_of(kind: Kind) -> u8
 }
 
 // A letter for each kind.
-fn put_letters<S: Sink>(sink: &mut S, kinds: &[Kind])
+pub(crate) fn put_letters<S: Sink>(sink: &mut S, kinds: &[Kind])
     ensures { S.takes sink.old (map letter kinds.now) sink.new }
 {
     for kind in kinds {
@@ -51,7 +51,7 @@ fn put_rows<S: Sink>(sink: &mut S, kinds: &[Kind], rows: &[Row])
 }
 
 // The whole text.
-fn put_list<S: Sink>(sink: &mut S, name: &[u8], kinds: &[Kind], rows: &[Row])
+pub(crate) fn put_list<S: Sink>(sink: &mut S, name: &[u8], kinds: &[Kind], rows: &[Row])
     ensures { S.takes sink.old (list_text name.now kinds.now (map (meant (length kinds.now)) rows.now)) sink.new }
 {
     put_header(sink, name, kinds, rows.len());

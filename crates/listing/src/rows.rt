@@ -27,7 +27,7 @@ fn put_spelling<S: Sink>(sink: &mut S, value: i64)
 }
 
 // A number, or a word in single quotes.
-fn put_value<S: Sink>(sink: &mut S, kind: Kind, value: i64)
+pub(crate) fn put_value<S: Sink>(sink: &mut S, kind: Kind, value: i64)
     ensures { S.takes sink.old (value_text kind value) sink.new }
 {
     match kind {

@@ -25,7 +25,11 @@ fn next_row(rows: &[Row], line: &[u8], kinds: &[Kind]) -> Result<Row, Reason>
 
 // Reads the lines behind the first, and prints a line for each that is refused. The rows are those of the other lines,
 // as many as count.
-pub fn read_rows(rt: &HostRuntime, lines: &mut Lines<'_>, kinds: &[Kind]) -> anyhow::Result<Vec<Row>>
+pub fn read_rows(
+    rt: &HostRuntime,
+    lines: &mut Lines<'_>,
+    kinds: &[Kind],
+) -> anyhow::Result<Vec<Row>>
     ensures { IfOk result (λ v. v.items ≡ take most_work (rows_in kinds.now (lines_left lines.old))) }
 {
     let mut rows = Vec::new(rt.alloc());

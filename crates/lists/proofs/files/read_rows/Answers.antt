@@ -12,7 +12,7 @@ loop-line-preserved-in-Continue-1 c =
     let row = row_in c.args.kinds.now c.in-Some.line.now in
     let same = c.as_slice.ensures.value in
     let is : c.push.new.self.items ≡ take most_work (rows ++ row) =
-        c.in_ok-push-in-Ok.ensures.items ∙ ap (λ l. l ++ c.in-Ok.row ∷ []) (sym same) ∙ c.in-Ok.ensures (few_taken most_work rows _ (same ∙ sym (take_all most_work rows c.loop-line.invariant.few))) ∙ ap (λ l. take most_work (l ++ row)) same in
+    c.in_ok-push-in-Ok.ensures.items ∙ ap (λ l. l ++ c.in-Ok.row ∷ []) (sym same) ∙ c.in-Ok.ensures (few_taken most_work rows _ (same ∙ sym (take_all most_work rows c.loop-line.invariant.few))) ∙ ap (λ l. take most_work (l ++ row)) same in
     record {
       few = few_taken most_work (rows ++ row) _ is;
       gathered = line_read most_work c.args.kinds.now rows _ _ (lines_left c.next.new.self) c.in-Some.line.now _ c.in-Some.ensures.steps (sym c.if-is_blank.ensures) is c.loop-line.invariant.gathered;
@@ -24,7 +24,7 @@ loop-line-preserved c =
     let row = row_in c.args.kinds.now c.in-Some.line.now in
     let same = c.as_slice.ensures.value in
     let is : rows ≡ take most_work (rows ++ row) =
-        sym same ∙ sym (append-nil _) ∙ c.in-Err.ensures (few_taken most_work rows _ (same ∙ sym (take_all most_work rows c.loop-line.invariant.few))) ∙ ap (λ l. take most_work (l ++ row)) same in
+    sym same ∙ sym (append-nil _) ∙ c.in-Err.ensures (few_taken most_work rows _ (same ∙ sym (take_all most_work rows c.loop-line.invariant.few))) ∙ ap (λ l. take most_work (l ++ row)) same in
     record {
       few = c.loop-line.invariant.few;
       gathered = line_read most_work c.args.kinds.now rows _ _ (lines_left c.next.new.self) c.in-Some.line.now _ c.in-Some.ensures.steps (sym c.if-is_blank.ensures) is c.loop-line.invariant.gathered;

@@ -1,0 +1,84 @@
+// The same texts for a formatter.
+ghost use Rattle.std.specs.Prelude.{⊤};
+
+use crate::list::{put_letters, put_list};
+use crate::rows::put_value;
+use crate::sinks::Sink;
+use relation::kinds::Kind;
+use relation::rows::Row;
+use std::fmt;
+
+// A formatter, and whether it has taken all parts so far. What a formatter takes is not said: a part may fail.
+#[derive(Drop)]
+struct Shown<'f, W> {
+    formatter: &'f mut fmt::Formatter<W>,
+    result: fmt::Result,
+}
+
+impl<'f, W: fmt::Write> Shown<'f, W> {
+    fn new(formatter: &'f mut fmt::Formatter<W>) -> Shown<'f, W> {
+        Shown {
+            formatter,
+            result: Ok(()),
+        }
+    }
+}
+
+impl<W: fmt::Write> Sink for Shown<'_, W> {
+    ghost takes = { λ _ _ _. ⊤ };
+
+    ghost nothing = { λ _. tt };
+
+    ghost both = { λ _ _ _ _ _ _ _. tt };
+
+    fn put(&mut self, part: &[u8]) {
+        for b in part {
+            if self.result.is_ok() {
+                self.result = self.formatter.write_char(*b as char);
+            }
+        }
+    }
+}
+
+// The letters of a relation's kinds.
+#[derive(Clone, Copy)]
+pub struct KindLetters<'a>(pub &'a [Kind]);
+
+impl fmt::Display for KindLetters<'_> {
+    fn fmt<W: fmt::Write>(&self, f: &mut fmt::Formatter<W>) -> fmt::Result {
+        let mut shown = Shown::new(f);
+        put_letters(&mut shown, self.0);
+        shown.result
+    }
+}
+
+// A value of a kind: a number, or a word in single quotes.
+#[derive(Clone, Copy)]
+pub struct ValueText {
+    pub kind: Kind,
+    pub value: i64,
+}
+
+impl fmt::Display for ValueText {
+    fn fmt<W: fmt::Write>(&self, f: &mut fmt::Formatter<W>) -> fmt::Result {
+        let mut shown = Shown::new(f);
+        put_value(&mut shown, self.kind, self.value);
+        shown.result
+    }
+}
+
+// A whole list.
+#[derive(Clone, Copy)]
+pub struct ListText<'a> {
+    pub name: &'a [u8],
+    pub kinds: &'a [Kind],
+    pub rows: &'a [Row],
+}
+
+impl fmt::Display for ListText<'_> {
+    fn fmt<W: fmt::Write>(&self, f: &mut fmt::Formatter<W>) -> fmt::Result {
+        let mut shown = Shown::new(f);
+        put_list(&mut shown, self.name, self.kinds, self.rows);
+        shown.result
+    }
+}
