@@ -5,7 +5,8 @@ use Rattle.tallies.specs.declared.rules.Tally.TheVariants as tallying
 use Rattle.words.specs.declared.names.Reserved.TheVariants as reserved
 use Rattle.takers.specs.Take.{Text, ◌then◌, take_column, take_sign, nothing}
 use Rattle.takers.specs.Writing.{WritesColumn, spelled_sign}
-use Rattle.takers.proofs.Options.{same_some, then_some, then_is}
+use Rattle.std.proofs.lemmas.Option.{same_Some}
+use Rattle.takers.proofs.Options.{then_some, then_is}
 use Rattle.takers.proofs.Taking.{column_read, column_take, sign_read, sign_take, nothing_read}
 use Rattle.grammar.specs.declared.keywords.Verb.{Verb}
 use Rattle.grammar.specs.declared.keywords.Verb.TheVariants.{Select, Project, Union, Except, Join, Count, Sum, Min, Max}
@@ -57,14 +58,14 @@ measured_read ws m e =
     let y = reserved_read reserved.Of a.0.1 o.0 o.1 in
     let k = column_read o.0 c.0 c.1 in
     let P : Measured → Type 0 = λ m. (xs : List Text) × (ts : List Text) × (us : List Text) × (ws ≡ xs ++ (ts ++ us)) × WritesOperand xs m.operand × WritesOf ts m.column × WritesGroups us (columns_in m.groups) in
-    subst P (same_some _ _ g.2)
+    subst P (same_Some _ _ g.2)
     (x.0, codes "of" ∷ k.0 ∷ [], c.0.1, x.1 ∙ ap (λ l. x.0 ++ l) (y ∙ ap (λ l. codes "of" ∷ l) k.1), x.2, (k.0, refl, k.2), groups_read c.0.1 g.0 g.1)
 
 tallied_read : (v : Text) (ws : List Text) (q : Query) (make : ℕ → Tally) → ((ts : List Text) (c : ℕ) → WritesOf ts c → WritesTally v ts (make c)) → (measured ws then (λ m. Some (tally (make m.column) m.operand (columns_in m.groups)))) ≡ Some q → WritesQuery v ws q
 tallied_read v ws q make told e =
     let m = then_some (measured ws) (λ m. Some (tally (make m.column) m.operand (columns_in m.groups))) q e in
     let r = measured_read ws m.0 m.1 in
-    subst (WritesQuery v ws) (same_some _ _ m.2) (r.0, r.1, r.2, r.3, r.4, told r.1 m.0.column r.5, r.6)
+    subst (WritesQuery v ws) (same_Some _ _ m.2) (r.0, r.1, r.2, r.3, r.4, told r.1 m.0.column r.5, r.6)
 
 both_read : (ws : List Text) (r : Operand × Operand) → both ws ≡ Some r → (xs : List Text) × (ys : List Text) × (ws ≡ xs ++ ys) × WritesOperand xs r.0 × WritesOperand ys r.1
 both_read ws r e =
@@ -74,7 +75,7 @@ both_read ws r e =
     let x = operand_read ws a.0 a.1 in
     let y = operand_read a.0.1 b.0 b.1 in
     let P : Operand × Operand → Type 0 = λ r. (xs : List Text) × (ys : List Text) × (ws ≡ xs ++ ys) × WritesOperand xs r.0 × WritesOperand ys r.1 in
-    subst P (same_some _ _ n.2) (x.0, y.0, x.1 ∙ ap (λ l. x.0 ++ l) (y.1 ∙ ap (λ l. y.0 ++ l) (nothing_read b.0.1 n.0 n.1) ∙ append-nil y.0), x.2, y.2)
+    subst P (same_Some _ _ n.2) (x.0, y.0, x.1 ∙ ap (λ l. x.0 ++ l) (y.1 ∙ ap (λ l. y.0 ++ l) (nothing_read b.0.1 n.0 n.1) ∙ append-nil y.0), x.2, y.2)
 
 -- four words after an operand, and nothing after them
 lined_up : (ws xs l₀ l₁ l₂ l₃ l₄ : List Text) (a b c d : Text) → ws ≡ xs ++ l₀ → l₀ ≡ a ∷ l₁ → l₁ ≡ b ∷ l₂ → l₂ ≡ c ∷ l₃ → l₃ ≡ d ∷ l₄ → l₄ ≡ [] → ws ≡ xs ++ a ∷ b ∷ c ∷ d ∷ []
@@ -95,7 +96,7 @@ query_read v Select ws q s e =
     let r = sign_read c.0.1 g.0 g.1 in
     let u = term_read g.0.1 t.0 t.1 in
     let z = nothing_read t.0.1 n.0 n.1 in
-    subst (WritesQuery v ws) (same_some (select a.0.0 (record { column = c.0.0; sign = g.0.0; term = t.0.0 })) q n.2)
+    subst (WritesQuery v ws) (same_Some (select a.0.0 (record { column = c.0.0; sign = g.0.0; term = t.0.0 })) q n.2)
     (s, (x.0, j.0, u.0, lined_up ws x.0 a.0.1 o.0 c.0.1 g.0.1 t.0.1 (codes "where") j.0 (spelled_sign g.0.0) u.0 x.1 y j.1 r u.1 z, x.2, j.2, u.2))
 query_read v Project ws q s e =
     let a = then_some (operand ws) _ q e in
@@ -104,21 +105,21 @@ query_read v Project ws q s e =
     let x = operand_read ws a.0 a.1 in
     let y = reserved_read reserved.On a.0.1 o.0 o.1 in
     let f = columns_after o.0 c.0 c.1 in
-    subst (WritesQuery v ws) (same_some _ _ c.2) (s, (x.0, c.0, x.1 ∙ ap (λ l. x.0 ++ l) (y ∙ ap (λ l. codes "on" ∷ l) f.0), x.2, f.1, f.2))
-query_read v Union ws q s e = let p = then_some (both ws) (λ p. Some (union p.0 p.1)) q e in subst (WritesQuery v ws) (same_some _ _ p.2) (s, both_read ws p.0 p.1)
-query_read v Except ws q s e = let p = then_some (both ws) (λ p. Some (except p.0 p.1)) q e in subst (WritesQuery v ws) (same_some _ _ p.2) (s, both_read ws p.0 p.1)
+    subst (WritesQuery v ws) (same_Some _ _ c.2) (s, (x.0, c.0, x.1 ∙ ap (λ l. x.0 ++ l) (y ∙ ap (λ l. codes "on" ∷ l) f.0), x.2, f.1, f.2))
+query_read v Union ws q s e = let p = then_some (both ws) (λ p. Some (union p.0 p.1)) q e in subst (WritesQuery v ws) (same_Some _ _ p.2) (s, both_read ws p.0 p.1)
+query_read v Except ws q s e = let p = then_some (both ws) (λ p. Some (except p.0 p.1)) q e in subst (WritesQuery v ws) (same_Some _ _ p.2) (s, both_read ws p.0 p.1)
 query_read v Join ws q s e =
     let a = then_some (operand ws) _ q e in
     let b = then_some (operand a.0.1) _ q a.2 in
     let p = then_some (take_pairs b.0.1) _ q b.2 in
     let x = operand_read ws a.0 a.1 in
     let y = operand_read a.0.1 b.0 b.1 in
-    subst (WritesQuery v ws) (same_some _ _ p.2) (s, (x.0, y.0, b.0.1, x.1 ∙ ap (λ l. x.0 ++ l) y.1, x.2, y.2, joined_read b.0.1 p.0 p.1))
+    subst (WritesQuery v ws) (same_Some _ _ p.2) (s, (x.0, y.0, b.0.1, x.1 ∙ ap (λ l. x.0 ++ l) y.1, x.2, y.2, joined_read b.0.1 p.0 p.1))
 query_read v Count ws q s e =
     let a = then_some (operand ws) _ q e in
     let g = then_some (take_groups a.0.1) _ q a.2 in
     let x = operand_read ws a.0 a.1 in
-    subst (WritesQuery v ws) (same_some _ _ g.2) (x.0, [], a.0.1, x.1, x.2, (s, refl), groups_read a.0.1 g.0 g.1)
+    subst (WritesQuery v ws) (same_Some _ _ g.2) (x.0, [], a.0.1, x.1, x.2, (s, refl), groups_read a.0.1 g.0 g.1)
 query_read v Sum ws q s e = tallied_read v ws q tallying.Sum (λ ts c h. (s, h)) e
 query_read v Min ws q s e = tallied_read v ws q tallying.Min (λ ts c h. (s, h)) e
 query_read v Max ws q s e = tallied_read v ws q tallying.Max (λ ts c h. (s, h)) e

@@ -1,14 +1,11 @@
 -- The keywords are text.
-use Rattle.std.proofs.Common.{◌≡◌, false, Some, codes, refl, ap, ◌∙◌}
+use Rattle.std.proofs.Common.{◌≡◌, Some, codes, refl}
 use lib.Utf8.{encode}
-use Rattle.std.specs.Str.{bytes_eq}
 use Rattle.words.specs.declared.names.Reserved.{Reserved}
 use Rattle.words.specs.declared.names.Reserved.TheVariants.{Base, During, Where, On, Of, By}
 use Rattle.words.specs.Name.{reserved}
-use Rattle.takers.specs.Take.{Text}
 use Rattle.takers.specs.Writing.{spelled_reserved}
-use Rattle.words.proofs.Listed.{Texts, other_bytes}
-use Rattle.takers.proofs.Options.{same_some}
+use Rattle.words.proofs.Listed.{Texts}
 use Rattle.grammar.specs.Keywords.{keywords}
 
 pub keywords_are_text : Texts keywords
@@ -24,6 +21,3 @@ reserved_is Where = refl
 reserved_is On = refl
 reserved_is Of = refl
 reserved_is By = refl
-
-pub another_reserved : (w : Text) (f r : Reserved) → Some f ≡ reserved w → (f ≡ r → ⊥) → bytes_eq w (spelled_reserved r) ≡ false
-another_reserved w f r e ne = other_bytes w (spelled_reserved r) (λ same. ne (same_some f r (e ∙ ap reserved same ∙ reserved_is r)))

@@ -16,7 +16,8 @@ use Rattle.words.specs.Token.{Tok, name, numeral, quoted, column, sign, token}
 use Rattle.takers.specs.Take.{Text, ◌then◌, take_name, take_number}
 use Rattle.takers.specs.Writing.{Name, spelled_reserved}
 use Rattle.words.proofs.Listed.{other_bytes}
-use Rattle.takers.proofs.Options.{same_some, absent, then_some, then_is}
+use Rattle.std.proofs.lemmas.Option.{same_Some}
+use Rattle.takers.proofs.Options.{absent, then_some, then_is}
 use Rattle.takers.proofs.Spelling.{number_token, quoted_token, column_token, Told, told}
 use Rattle.takers.proofs.Taking.{taken_read, taken_take, name_read, name_take, number_read, number_take}
 use Rattle.grammar.specs.declared.keywords.Verb.{Verb}
@@ -61,7 +62,7 @@ by_table : (w : Text) (k : Keyword) (es : List (Text × Keyword)) → Spelled es
 by_table w k [] s e = absent k e
 by_table w k (x ∷ es) s e =
     ⊎_elim
-    (λ t. (bytes_eq-Decides w x.0).0 t ∙ s.0 ∙ ap spelled (same_some x.1 k (sym (cond-true (bytes_eq w x.0) (Some x.1) (meant_by w es) t) ∙ e)))
+    (λ t. (bytes_eq-Decides w x.0).0 t ∙ s.0 ∙ ap spelled (same_Some x.1 k (sym (cond-true (bytes_eq w x.0) (Some x.1) (meant_by w es) t) ∙ e)))
     (λ f. by_table w k es s.1 (sym (cond-false (bytes_eq w x.0) (Some x.1) (meant_by w es) f) ∙ e))
     (cases_Bool (bytes_eq w x.0))
 
@@ -82,13 +83,13 @@ name_unreserved w r e =
 
 window_read : (a : Text) (ws : List Text) (o : Option (List Text)) → take_reserved During ws ≡ o → Name a → (r : Operand × List Text) → (window_after ws o then (λ d. Some (windowed a d.0, d.1))) ≡ Some r → (xs : List Text) × (a ∷ ws ≡ xs ++ r.1) × WritesOperand xs r.0
 window_read a ws None d n r e =
-    let p : ◌≡◌ {A = Operand × List Text} (whole a, ws) r = same_some _ _ e in
+    let p : ◌≡◌ {A = Operand × List Text} (whole a, ws) r = same_Some _ _ e in
     (a ∷ [], (λ i. a ∷ (p i).1), subst (λ q. WritesOperand (a ∷ []) q.0) p (refl, n))
 window_read a ws (Some on) d n r e =
     let t = then_some (window_after ws (Some on)) (λ d. Some (windowed a d.0, d.1)) r e in
     let f = then_some (take_number on) _ t.0 t.1 in
     let u = then_some (take_number f.0.1) _ t.0 f.2 in
-    let p : ◌≡◌ {A = Operand × List Text} (part a f.0.0 u.0.0, u.0.1) r = ap (λ d. (windowed a d.0, d.1)) (same_some _ _ u.2) ∙ same_some _ _ t.2 in
+    let p : ◌≡◌ {A = Operand × List Text} (part a f.0.0 u.0.0, u.0.1) r = ap (λ d. (windowed a d.0, d.1)) (same_Some _ _ u.2) ∙ same_Some _ _ t.2 in
     let x = number_read on f.0 f.1 in
     let y = number_read f.0.1 u.0 u.1 in
     let xs : List Text = a ∷ codes "during" ∷ x.0 ∷ y.0 ∷ [] in (
@@ -132,11 +133,11 @@ word_is q h = cond-true (is_word q) _ _ h
 
 term_told : (w : Text) (t : Tok) (x : Term) → Told w t → term_in t ≡ Some x → WritesTerm w x
 term_told w (name n) x h e = absent x e
-term_told w (numeral z) x h e = subst (WritesTerm w) (same_some _ _ e) h
+term_told w (numeral z) x h e = subst (WritesTerm w) (same_Some _ _ e) h
 term_told w (quoted q) x h e =
     let v = then_some (word_value q) (λ z. Some (term.Word z)) x e in
-    subst (WritesTerm w) (same_some _ _ v.2) (q, h.0, h.1, same_some _ _ (sym v.1 ∙ word_is q h.1))
-term_told w (column k) x h e = subst (WritesTerm w) (same_some _ _ e) h
+    subst (WritesTerm w) (same_Some _ _ v.2) (q, h.0, h.1, same_Some _ _ (sym v.1 ∙ word_is q h.1))
+term_told w (column k) x h e = subst (WritesTerm w) (same_Some _ _ e) h
 term_told w (sign s) x h e = absent x e
 
 pub term_read : (ws : List Text) (r : Term × List Text) → take_term ws ≡ Some r → (w : Text) × (ws ≡ w ∷ r.1) × WritesTerm w r.0

@@ -6,7 +6,8 @@ use Rattle.relation.specs.Bounds.{most_columns}
 use Rattle.words.specs.Kinds.{kinds_of}
 use Rattle.takers.specs.Take.{Text, ◌then◌, take_name, take_number, take_equals, take_kinds, nothing, all_values, RowText, take_row, is_blank}
 use Rattle.takers.specs.Writing.{Name, WritesKinds, WritesValue}
-use Rattle.takers.proofs.Options.{same_some, absent, then_some, cond_some, then_is}
+use Rattle.std.proofs.lemmas.Option.{same_Some, cond_some}
+use Rattle.takers.proofs.Options.{absent, then_some, then_is}
 use Rattle.takers.proofs.Taking.{name_read, name_take, number_read, number_take, equals_read, equals_take, kinds_of_lem, kinds_is, nothing_read}
 use Rattle.grammar.specs.declared.keywords.Verb.{Verb}
 use Rattle.grammar.specs.declared.keywords.Verb.TheVariants.{Select, Project, Union, Except, Join, Count, Sum, Min, Max}
@@ -29,7 +30,7 @@ kinds_read (w ∷ ws) r e =
     let h = then_some (kinds_of w) (λ ks. Some (ks, ws)) r e in
     let k = kinds_of_lem w h.0 h.1 in
     let P : List Kind × List Text → Type 0 = λ r. (x : Text) × (w ∷ ws ≡ x ∷ r.1) × WritesKinds x r.0 × (length r.0 ≤ most_columns) in
-    subst P (same_some _ _ h.2) (w, refl, k.0, k.1)
+    subst P (same_Some _ _ h.2) (w, refl, k.0, k.1)
 
 kinds_take : (w : Text) (ks : List Kind) (on : List Text) → WritesKinds w ks → length ks ≤ most_columns → take_kinds (w ∷ on) ≡ Some (ks, on)
 kinds_take w ks on h le = then_is (kinds_of w) (λ ks. Some (ks, on)) ks (kinds_is w ks h le)
@@ -68,7 +69,7 @@ only_name_read ws n e =
     let a = then_some (take_name ws) _ n e in
     let z = then_some (nothing a.0.1) _ n a.2 in
     let r = name_read ws a.0 a.1 in
-    subst (λ n. (ws ≡ n ∷ []) × Name n) (same_some _ _ z.2) (r.0 ∙ ap (λ x. a.0.0 ∷ x) (nothing_read a.0.1 z.0 z.1), r.1)
+    subst (λ n. (ws ≡ n ∷ []) × Name n) (same_Some _ _ z.2) (r.0 ∙ ap (λ x. a.0.0 ∷ x) (nothing_read a.0.1 z.0 z.1), r.1)
 
 only_name_take : (n : Text) → Name n → only_name (n ∷ []) ≡ Some n
 only_name_take n h = then_is (take_name (n ∷ [])) (λ n. nothing n.1 then (λ _. Some n.0)) (n, []) (name_take n [] h)
@@ -81,28 +82,28 @@ form_read ws l Load e =
     let a = name_read ws n.0 n.1 in
     let b = kinds_read n.0.1 k.0 k.1 in
     let c = nothing_read k.0.1 z.0 z.1 in
-    subst (Writes (codes "load" ∷ ws)) (same_some _ _ z.2) (b.0, ap (λ x. codes "load" ∷ x) (a.0 ∙ ap (λ x. n.0.0 ∷ x) (b.1 ∙ ap (λ x. b.0 ∷ x) c)), a.1, b.2, b.3)
+    subst (Writes (codes "load" ∷ ws)) (same_Some _ _ z.2) (b.0, ap (λ x. codes "load" ∷ x) (a.0 ∙ ap (λ x. n.0.0 ∷ x) (b.1 ∙ ap (λ x. b.0 ∷ x) c)), a.1, b.2, b.3)
 form_read ws l Row e =
     let p = then_some (take_row ws) (λ p. Some (row p.from p.until (values_in p.values))) l e in
-    subst (Writes (codes "row" ∷ ws)) (same_some _ _ p.2) (row_read ws p.0 p.1)
+    subst (Writes (codes "row" ∷ ws)) (same_Some _ _ p.2) (row_read ws p.0 p.1)
 form_read ws l End e =
     let z = then_some (nothing ws) _ l e in
-    subst (Writes (codes "end" ∷ ws)) (same_some _ _ z.2) (ap (λ x. codes "end" ∷ x) (nothing_read ws z.0 z.1))
+    subst (Writes (codes "end" ∷ ws)) (same_Some _ _ z.2) (ap (λ x. codes "end" ∷ x) (nothing_read ws z.0 z.1))
 form_read ws l Drop e =
     let n = then_some (only_name ws) (λ n. Some (drop n)) l e in
     let a = only_name_read ws n.0 n.1 in
-    subst (Writes (codes "drop" ∷ ws)) (same_some _ _ n.2) (ap (λ x. codes "drop" ∷ x) a.0, a.1)
+    subst (Writes (codes "drop" ∷ ws)) (same_Some _ _ n.2) (ap (λ x. codes "drop" ∷ x) a.0, a.1)
 form_read ws l Show e =
     let n = then_some (only_name ws) (λ n. Some (show n)) l e in
     let a = only_name_read ws n.0 n.1 in
-    subst (Writes (codes "show" ∷ ws)) (same_some _ _ n.2) (ap (λ x. codes "show" ∷ x) a.0, a.1)
+    subst (Writes (codes "show" ∷ ws)) (same_Some _ _ n.2) (ap (λ x. codes "show" ∷ x) a.0, a.1)
 form_read ws l (Query v) e =
     let n = then_some (take_name ws) _ l e in
     let s = then_some (take_equals n.0.1) _ l n.2 in
     let q = then_some (query_of v s.0) _ l s.2 in
     let a = name_read ws n.0 n.1 in
     let b = equals_read n.0.1 s.0 s.1 in
-    subst (Writes (spelled_verb v ∷ ws)) (same_some _ _ q.2)
+    subst (Writes (spelled_verb v ∷ ws)) (same_Some _ _ q.2)
     (spelled_verb v, s.0, ap (λ x. spelled_verb v ∷ x) (a.0 ∙ ap (λ x. n.0.0 ∷ x) b), a.1, query_read (spelled_verb v) v s.0 q.0 refl q.1)
 
 by_keyword : (w : Text) (ws : List Text) (l : Line) (k : Option Keyword) → keyword w ≡ k → form k ws ≡ Some l → Writes (w ∷ ws) l
@@ -116,7 +117,7 @@ worded_read (w ∷ ws) l e = by_keyword w ws l (keyword w) refl e
 pub line_read : (ws : List Text) (l : Line) → line_of ws ≡ Some l → Writes ws l
 line_read ws l e =
     ⊎_elim
-    (λ t. subst (Writes ws) (same_some skip l (sym (cond-true (is_blank ws) (Some skip) (worded ws) t) ∙ e)) (blank_read ws t))
+    (λ t. subst (Writes ws) (same_Some skip l (sym (cond-true (is_blank ws) (Some skip) (worded ws) t) ∙ e)) (blank_read ws t))
     (λ f. worded_read ws l (sym (cond-false (is_blank ws) (Some skip) (worded ws) f) ∙ e))
     (cases_Bool (is_blank ws))
 
@@ -171,4 +172,4 @@ pub reads : (ws : List Text) (o : Option Line) → o ≡ line_of ws → Reads ws
 reads ws o e l = ((λ h. e ∙ line_written ws l h), λ h. line_read ws l (sym e ∙ h))
 
 pub one_reading : OneReading
-one_reading ws l m h k = same_some l m (sym (line_written ws l h) ∙ line_written ws m k)
+one_reading ws l m h k = same_Some l m (sym (line_written ws l h) ∙ line_written ws m k)

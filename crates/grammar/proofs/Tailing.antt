@@ -8,7 +8,8 @@ use Rattle.words.specs.declared.tokens.Position.TheVariants as position
 use Rattle.words.specs.Token.{token, column}
 use Rattle.takers.specs.Take.{Text, ◌then◌, Val, column_in, nothing, value_of, all_values}
 use Rattle.takers.specs.Writing.{WritesValue, WritesColumn, spelled_reserved}
-use Rattle.takers.proofs.Options.{same_some, absent, then_some, cond_some, then_is}
+use Rattle.std.proofs.lemmas.Option.{same_Some, cond_some}
+use Rattle.takers.proofs.Options.{absent, then_some, then_is}
 use Rattle.takers.proofs.Spelling.{column_token}
 use Rattle.takers.proofs.Taking.{nothing_read, value_of_lem, value_is, column_read, taken_take}
 use Rattle.grammar.specs.Said.{also, gathered, column_at, pair_at, values_in, columns_in, pairs_in}
@@ -84,7 +85,7 @@ pair_told : (x y : Text) (p : ℕ × ℕ) → pair_at x y ≡ Some p → WritesC
 pair_told x y p e =
     let l = then_some (column_at x) (λ l. column_at y then (λ r. Some (l, r))) p e in
     let r = then_some (column_at y) (λ r. Some (l.0, r)) p l.2 in
-    let q : ◌≡◌ {A = ℕ × ℕ} (l.0, r.0) p = same_some _ _ r.2 in
+    let q : ◌≡◌ {A = ℕ × ℕ} (l.0, r.0) p = same_Some _ _ r.2 in
     let P : ℕ × ℕ → Type 0 = λ p. WritesColumn x p.0 × WritesColumn y p.1 in
     subst P q (column_at_lem x l.0 l.1, column_at_lem y r.0 r.1)
 
@@ -146,7 +147,7 @@ module _ {A : Type 0} (wanted : List Text → Bool) (gather : List Text → List
     optional_read ws ts None q e =
         let h = then_some (nothing ws) (λ _. Some ws) ts e in
         let n = nothing_read ws h.0 h.1 in
-        inl (n, ap gather (sym (same_some _ _ h.2) ∙ n) ∙ empty)
+        inl (n, ap gather (sym (same_Some _ _ h.2) ∙ n) ∙ empty)
     optional_read ws ts (Some on) q e =
         let f = filled_read on ts e in
         inr (ts, reserved_read r ws on q ∙ ap (λ l. spelled_reserved r ∷ l) f.0, f.1, f.2)

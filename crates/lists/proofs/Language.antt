@@ -15,7 +15,8 @@ use Rattle.words.specs.Name.{is_name}
 use Rattle.words.specs.Kinds.{kind_of, is_kinds, kinds_of}
 use Rattle.takers.specs.Take.{Text, ◌then◌, Val, number_val, word_val, take_value, RowText, take_row}
 use Rattle.takers.specs.Writing.{Name, WritesValue, WritesValues}
-use Rattle.takers.proofs.Options.{same_some, absent, then_some, cond_some, then_is}
+use Rattle.std.proofs.lemmas.Option.{same_Some, cond_some}
+use Rattle.takers.proofs.Options.{absent, then_some, then_is}
 use Rattle.takers.proofs.Taking.{value_is, value_take, kinds_told, kinds_are, kinds_of_lem, kinds_is, row_read, row_take}
 use Rattle.lists.specs.ListLines.{or_else, header_line, as_kind, take_as, fits, fitted, bounded, bounded_word, all_bounded, is_period, row_with, row_of, row_line}
 use Rattle.lists.specs.ListLanguage.{HeaderSays, HeaderRefused, ReadsHeader, WritesRow, HeldAs, Held, Fits, InBounds, RowSays, RowRefused, ReadsRow}
@@ -71,7 +72,7 @@ header_reads ws r e =
 -- ---- values
 
 held_as : (k : Kind) (w : Text) (v : Val) (z : ℤ) → WritesValue w v → as_kind k v ≡ Some z → HeldAs k v z
-held_as kind.Number w (number_val y) z h e = sym (same_some _ _ e)
+held_as kind.Number w (number_val y) z h e = sym (same_Some _ _ e)
 held_as kind.Number w (word_val q) z h e = absent z e
 held_as kind.Word w (number_val y) z h e = absent z e
 held_as kind.Word w (word_val q) z h e = sym (cond_some (is_word q) (pos (word q)) z e).1
@@ -89,7 +90,7 @@ taken_as : (k : Kind) (w : Text) (v : Val) (on : List Text) → WritesValue w v 
 taken_as k w v on h = then_is (take_value (w ∷ on)) (λ v. as_kind k v.0 then (λ z. Some (z, v.1))) (v, on) (value_take w v on h)
 
 fits_held : (ks : List Kind) (ts : List Text) (vs : List Val) (zs : List ℤ) → WritesValues ts vs → fits ks ts ≡ Some zs → Held ks vs zs
-fits_held [] [] [] zs h e = subst (Held [] []) (same_some _ _ e) tt
+fits_held [] [] [] zs h e = subst (Held [] []) (same_Some _ _ e) tt
 fits_held [] [] (v ∷ vs) zs h e = absurd h
 fits_held [] (t ∷ ts) vs zs h e = absent zs e
 fits_held (k ∷ ks) [] vs zs h e = absent zs e
@@ -98,8 +99,8 @@ fits_held (k ∷ ks) (t ∷ ts) (v ∷ vs) zs h e =
     let a = then_some (take_as k (t ∷ ts)) (λ r. fits ks r.1 then (λ zs. Some (r.0 ∷ zs))) zs e in
     let b = then_some (fits ks a.0.1) (λ zs. Some (a.0.0 ∷ zs)) zs a.2 in
     let c = then_some (as_kind k v) (λ z. Some (z, ts)) a.0 (sym (taken_as k t v ts h.0) ∙ a.1) in
-    let p : ◌≡◌ {A = ℤ × List Text} (c.0, ts) a.0 = same_some _ _ c.2 in
-    subst (Held (k ∷ ks) (v ∷ vs)) (same_some _ _ b.2)
+    let p : ◌≡◌ {A = ℤ × List Text} (c.0, ts) a.0 = same_Some _ _ c.2 in
+    subst (Held (k ∷ ks) (v ∷ vs)) (same_Some _ _ b.2)
     (held_as k t v a.0.0 h.0 (c.1 ∙ (λ i. Some (p i).0)), fits_held ks ts vs b.0 h.1 ((λ i. fits ks (p i).1) ∙ b.1))
 
 held_fits : (ks : List Kind) (ts : List Text) (vs : List Val) (zs : List ℤ) → WritesValues ts vs → Held ks vs zs → fits ks ts ≡ Some zs

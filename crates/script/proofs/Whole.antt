@@ -8,7 +8,8 @@ use Rattle.words.specs.Lines.{lines}
 use Rattle.words.specs.Rest.{texts}
 use Rattle.takers.specs.Take.{Text}
 use Rattle.words.specs.Words.{words}
-use Rattle.takers.proofs.Options.{same_some, absent, then_some, then_is}
+use Rattle.std.proofs.lemmas.Option.{same_Some}
+use Rattle.takers.proofs.Options.{absent, then_some, then_is}
 use Rattle.grammar.specs.Meaning.{Line, skip, load, row, end, drop, show, query}
 use Rattle.grammar.proofs.Reading.{line_read, line_written}
 use Rattle.script.specs.Faults.{most_bytes, most_lines, said, outside, within, stands, step, follow, fault, refusal, is_script}
@@ -18,15 +19,15 @@ use Rattle.script.specs.Scripts.{Written, Orderly, Lawful, Script}
 
 -- a line that may stand only outside of loads, and one only within
 from_outside : (o p a : Option ℕ) (b : Bool) (ls : List Line) → outside o a ≡ Some p → is_some a ≡ b → Orderly (is_some p) ls → (is_some o ≡ false) × Orderly b ls
-from_outside None p a b ls e same k = (refl, subst (λ v. Orderly v ls) (ap is_some (sym (same_some a p e)) ∙ same) k)
+from_outside None p a b ls e same k = (refl, subst (λ v. Orderly v ls) (ap is_some (sym (same_Some a p e)) ∙ same) k)
 from_outside (Some m) p a b ls e same k = absent p e
 
 from_within : (o p a : Option ℕ) (b : Bool) (ls : List Line) → within o a ≡ Some p → is_some a ≡ b → Orderly (is_some p) ls → (is_some o ≡ true) × Orderly b ls
 from_within None p a b ls e same k = absent p e
-from_within (Some m) p a b ls e same k = (refl, subst (λ v. Orderly v ls) (ap is_some (sym (same_some a p e)) ∙ same) k)
+from_within (Some m) p a b ls e same k = (refl, subst (λ v. Orderly v ls) (ap is_some (sym (same_Some a p e)) ∙ same) k)
 
 forward : (n : ℕ) (o p : Option ℕ) (l : Line) (ls : List Line) → stands n o l ≡ Some p → Orderly (is_some p) ls → Orderly (is_some o) (l ∷ ls)
-forward n o p skip ls e k = subst (λ v. Orderly (is_some v) ls) (sym (same_some o p e)) k
+forward n o p skip ls e k = subst (λ v. Orderly (is_some v) ls) (sym (same_Some o p e)) k
 forward n o p (load a ks) ls e k = from_outside o p (Some n) true ls e refl k
 forward n None p (row f u vs) ls e k = absent p e
 forward n (Some m) p (row f u vs) ls e k = from_within (Some m) p (Some m) true ls e refl k

@@ -9,7 +9,8 @@ use Rattle.words.specs.Lines.{lines}
 use Rattle.words.specs.Rest.{texts}
 use Rattle.takers.specs.Take.{Text, ◌then◌}
 use Rattle.words.specs.Words.{words}
-use Rattle.takers.proofs.Options.{same_some, absent, then_some, then_is}
+use Rattle.std.proofs.lemmas.Option.{same_Some}
+use Rattle.takers.proofs.Options.{absent, then_some, then_is}
 use Rattle.grammar.specs.Meaning.{Line, skip, load, row, end, drop, show, query}
 use Rattle.grammar.proofs.Reading.{line_read, line_written}
 use Rattle.script.specs.Faults.{most_bytes, most_lines, said, stands, step, follow, fault, refusal}
@@ -24,7 +25,7 @@ reach n o (t ∷ ts) = step n o t then (λ p. reach (n + 1) p ts)
 -- ---- the lines that begin a script
 
 goes_on : (n : ℕ) (o p : Option ℕ) (ts us : List Text) → reach n o ts ≡ Some p → (m : ℕ) × (fault n o (ts ++ us) ≡ fault m p us)
-goes_on n o p [] us e = (n, ap (λ q. fault n q us) (same_some o p e))
+goes_on n o p [] us e = (n, ap (λ q. fault n q us) (same_Some o p e))
 goes_on n o p (t ∷ ts) us e =
     let s = then_some (step n o t) (λ q. reach (n + 1) q ts) p e in
     let r = goes_on (n + 1) s.0 p ts us s.2 in
@@ -52,12 +53,12 @@ Stuck n o ts m = (k : ℕ) × (k < length ts) × (m ≡ n + k) × ((p : Option �
 
 which : (n : ℕ) (o : Option ℕ) (ts : List Text) (m : ℕ) → fault n o ts ≡ Some m → Stuck n o ts m ⊎ (reach n o ts ≡ Some (Some m))
 which n None [] m e = absent m e
-which n (Some k) [] m e = inr (ap (λ j. Some (Some j)) (same_some k m e))
+which n (Some k) [] m e = inr (ap (λ j. Some (Some j)) (same_Some k m e))
 which n o (t ∷ ts) m e = by_step (λ p g. which (n + 1) p ts m g) (step n o t) refl e
   where
     by_step : ((p : Option ℕ) → fault (n + 1) p ts ≡ Some m → Stuck (n + 1) p ts m ⊎ (reach (n + 1) p ts ≡ Some (Some m))) → (q : Option (Option ℕ)) → step n o t ≡ q → follow n q (λ p. fault (n + 1) p ts) ≡ Some m → Stuck n o (t ∷ ts) m ⊎ (reach n o (t ∷ ts) ≡ Some (Some m))
     by_step go None w e =
-        let same = same_some n m e in
+        let same = same_Some n m e in
         inl (0, omega arith, omega arith, (o, refl), ap (λ q. q then (λ p. reach (n + 1) p [])) w)
     by_step go (Some p) w e =
         ⊎_elim
@@ -89,27 +90,27 @@ abbrev Loads : ℕ → List Text → ℕ → Type 0
 Loads n ts m = (before : List Text) × (t : Text) × (after : List Text) × (ts ≡ before ++ t ∷ after) × (m ≡ n + length before) × ((a : Text) × (ks : List Kind) × Says t (load a ks)) × AllOf NoEnd after
 
 other_line : (t : Text) (l : Line) → said t ≡ Some l → (end ≡ l → ⊥) → NoEnd t
-other_line t l e ne s = ne (same_some end l (sym (line_written (texts (words t)) end s) ∙ e))
+other_line t l e ne s = ne (same_Some end l (sym (line_written (texts (words t)) end s) ∙ e))
 
 open_or : (n : ℕ) (o : Option ℕ) (t : Text) (ts : List Text) (m : ℕ) (l : Line) → said t ≡ Some l → stands n o l ≡ Some (Some m) → AllOf NoEnd ts → ((o ≡ Some m) × AllOf NoEnd (t ∷ ts)) ⊎ Loads n (t ∷ ts) m
-open_or n o t ts m skip w e h = inl (same_some _ _ e, (other_line t skip w (λ q. let z : ◌≡◌ {A = ℕ} 0 1 = cc in omega arith), h))
+open_or n o t ts m skip w e h = inl (same_Some _ _ e, (other_line t skip w (λ q. let z : ◌≡◌ {A = ℕ} 0 1 = cc in omega arith), h))
 open_or n None t ts m (load a ks) w e h =
-    let same : n ≡ m = cc (same_some (Some n) (Some m) e) in
+    let same : n ≡ m = cc (same_Some (Some n) (Some m) e) in
     inr ([], t, ts, refl, omega arith, (a, ks, line_read (texts (words t)) (load a ks) w), h)
 open_or n (Some j) t ts m (load a ks) w e h = absent (Some m) e
 open_or n None t ts m (row f u vs) w e h = absent (Some m) e
-open_or n (Some j) t ts m (row f u vs) w e h = inl (same_some _ _ e, (other_line t (row f u vs) w (λ q. let z : ◌≡◌ {A = ℕ} 0 1 = cc in omega arith), h))
+open_or n (Some j) t ts m (row f u vs) w e h = inl (same_Some _ _ e, (other_line t (row f u vs) w (λ q. let z : ◌≡◌ {A = ℕ} 0 1 = cc in omega arith), h))
 open_or n None t ts m end w e h = absent (Some m) e
-open_or n (Some j) t ts m end w e h = let q = same_some None (Some m) e in let z : ◌≡◌ {A = ℕ} 0 1 = cc in absurd (omega arith)
-open_or n None t ts m (drop a) w e h = let q = same_some None (Some m) e in let z : ◌≡◌ {A = ℕ} 0 1 = cc in absurd (omega arith)
+open_or n (Some j) t ts m end w e h = let q = same_Some None (Some m) e in let z : ◌≡◌ {A = ℕ} 0 1 = cc in absurd (omega arith)
+open_or n None t ts m (drop a) w e h = let q = same_Some None (Some m) e in let z : ◌≡◌ {A = ℕ} 0 1 = cc in absurd (omega arith)
 open_or n (Some j) t ts m (drop a) w e h = absent (Some m) e
-open_or n None t ts m (show a) w e h = let q = same_some None (Some m) e in let z : ◌≡◌ {A = ℕ} 0 1 = cc in absurd (omega arith)
+open_or n None t ts m (show a) w e h = let q = same_Some None (Some m) e in let z : ◌≡◌ {A = ℕ} 0 1 = cc in absurd (omega arith)
 open_or n (Some j) t ts m (show a) w e h = absent (Some m) e
-open_or n None t ts m (query a q) w e h = let q = same_some None (Some m) e in let z : ◌≡◌ {A = ℕ} 0 1 = cc in absurd (omega arith)
+open_or n None t ts m (query a q) w e h = let q = same_Some None (Some m) e in let z : ◌≡◌ {A = ℕ} 0 1 = cc in absurd (omega arith)
 open_or n (Some j) t ts m (query a q) w e h = absent (Some m) e
 
 loaded : (n : ℕ) (o : Option ℕ) (ts : List Text) (m : ℕ) → reach n o ts ≡ Some (Some m) → ((o ≡ Some m) × AllOf NoEnd ts) ⊎ Loads n ts m
-loaded n o [] m e = inl (same_some o (Some m) e, tt)
+loaded n o [] m e = inl (same_Some o (Some m) e, tt)
 loaded n o (t ∷ ts) m e =
     let s = then_some (step n o t) (λ q. reach (n + 1) q ts) (Some m) e in
     let l = then_some (said t) (stands n o) s.0 s.1 in
@@ -137,13 +138,13 @@ by_line : (t : List ℕ) (o : Option ℕ) (r : Refusal) → too_long t ≡ false
 by_line t None r f q e = absent r e
 by_line t (Some m) r f q e =
     let b = or_parts (ltb most_bytes (length t)) (ltb most_lines (length (lines t))) f in
-    subst (Wrong t) (same_some (line_refusal m) r e) ((ltb-false _ _ b.0, ltb-false _ _ b.1, wrong_line (lines t) m q), refl)
+    subst (Wrong t) (same_Some (line_refusal m) r e) ((ltb-false _ _ b.0, ltb-false _ _ b.1, wrong_line (lines t) m q), refl)
 
 wrong : (t : List ℕ) (r : Refusal) → refusal t ≡ Some r → Wrong t r
 wrong t r e =
     ⊎_elim
     (λ y.
-    subst (Wrong t) (same_some size_refusal r (sym (refused_size t y) ∙ e))
+    subst (Wrong t) (same_Some size_refusal r (sym (refused_size t y) ∙ e))
     ((refl, ⊎_elim (λ a. inl (ltb-true _ _ a)) (λ a. inr (ltb-true _ _ a)) (or_cases (ltb most_bytes (length t)) (ltb most_lines (length (lines t))) y)), refl))
     (λ f. by_line t (fault 1 None (lines t)) r f refl (sym (refused_line t f) ∙ e))
     (cases_Bool (too_long t))

@@ -17,7 +17,8 @@ use Rattle.words.specs.Token.{Tok, name, numeral, quoted, column, sign, token, q
 use Rattle.takers.specs.Take.{Text}
 use Rattle.takers.specs.Writing.{Numeral, WritesNumber, Name, WritesColumn, spelled_sign}
 use Rattle.words.proofs.Numeric.{is_plain}
-use Rattle.takers.proofs.Options.{same_some, absent, cond_some}
+use Rattle.std.proofs.lemmas.Option.{same_Some, cond_some}
+use Rattle.takers.proofs.Options.{absent}
 
 -- ---- numbers
 
@@ -45,7 +46,7 @@ natural_is ds n = cond-true (plain ds) _ _ (numeral_plain ds n)
 
 plus_told : (ds : Text) (o : Option ℕ) (z : ℤ) → natural ds ≡ o → plus o ≡ Some z → Numeral ds × (z ≡ pos (read_on 0 ds))
 plus_told ds None z h e = absent z e
-plus_told ds (Some n) z h e = let t = natural_told ds n h in (t.0, sym (ap pos t.1 ∙ same_some _ _ e))
+plus_told ds (Some n) z h e = let t = natural_told ds n h in (t.0, sym (ap pos t.1 ∙ same_Some _ _ e))
 
 minus_told : (ds : Text) (o : Option ℕ) (z : ℤ) → natural ds ≡ o → minus o ≡ Some z → Numeral ds × (0 < read_on 0 ds) × (z ≡ neg_ℤ (pos (read_on 0 ds)))
 minus_told ds None z h e = absent z e
@@ -53,7 +54,7 @@ minus_told ds (Some n) z h e =
     let t = natural_told ds n h in
     ⊎_elim
     (λ q. absent z (sym (cond-true (eqb n 0) None (Some (neg_ℤ (pos n))) q) ∙ e))
-    (λ q. let ne = eqb-false n 0 q in let v = t.1 in let lt : 0 < read_on 0 ds = ⊎_elim (λ zero. absurd (ne zero)) (λ nz. omega arith) (cases_eq n 0) in (t.0, lt, sym (ap (λ k. neg_ℤ (pos k)) t.1 ∙ same_some _ _ (sym (cond-false (eqb n 0) None (Some (neg_ℤ (pos n))) q) ∙ e))))
+    (λ q. let ne = eqb-false n 0 q in let v = t.1 in let lt : 0 < read_on 0 ds = ⊎_elim (λ zero. absurd (ne zero)) (λ nz. omega arith) (cases_eq n 0) in (t.0, lt, sym (ap (λ k. neg_ℤ (pos k)) t.1 ∙ same_Some _ _ (sym (cond-false (eqb n 0) None (Some (neg_ℤ (pos n))) q) ∙ e))))
     (cases_Bool (eqb n 0))
 
 pub number_told : (w : Text) (z : ℤ) → number w ≡ Some z → WritesNumber w z

@@ -15,13 +15,14 @@ use Rattle.words.specs.Token.{Tok, name, numeral, quoted, column, sign, token}
 use Rattle.words.specs.Kinds.{kind_byte, kind_of, is_kinds, kinds_of}
 use Rattle.takers.specs.Take.{Text, ◌then◌, Val, number_val, word_val, name_in, number_in, value_in, column_in, sign_in, is_equal, take_token, take_name, take_number, value_of, take_value, take_column, take_sign, take_equals, nothing, is_value, all_values, RowText, take_row}
 use Rattle.takers.specs.Writing.{WritesNumber, Name, WritesValue, WritesValues, WritesColumn, spelled_sign, letter, WritesKinds}
-use Rattle.takers.proofs.Options.{same_some, absent, then_some, cond_some, then_is}
+use Rattle.std.proofs.lemmas.Option.{same_Some, cond_some}
+use Rattle.takers.proofs.Options.{absent, then_some, then_is}
 use Rattle.takers.proofs.Spelling.{number_token, quoted_token, sign_token, column_token, name_token, Told, told}
 
 -- ---- which token a taker takes
 
 name_in_lem : (t : Tok) (n : Text) → name_in t ≡ Some n → t ≡ name n
-name_in_lem (name m) n e = ap name (same_some _ _ e)
+name_in_lem (name m) n e = ap name (same_Some _ _ e)
 name_in_lem (numeral z) n e = absent n e
 name_in_lem (quoted q) n e = absent n e
 name_in_lem (column k) n e = absent n e
@@ -29,7 +30,7 @@ name_in_lem (sign s) n e = absent n e
 
 number_in_lem : (t : Tok) (n : ℤ) → number_in t ≡ Some n → t ≡ numeral n
 number_in_lem (name m) n e = absent n e
-number_in_lem (numeral m) n e = ap numeral (same_some _ _ e)
+number_in_lem (numeral m) n e = ap numeral (same_Some _ _ e)
 number_in_lem (quoted q) n e = absent n e
 number_in_lem (column k) n e = absent n e
 number_in_lem (sign s) n e = absent n e
@@ -38,7 +39,7 @@ column_in_lem : (t : Tok) (k : ℕ) → column_in t ≡ Some k → t ≡ column 
 column_in_lem (name m) n e = absent n e
 column_in_lem (numeral m) n e = absent n e
 column_in_lem (quoted q) n e = absent n e
-column_in_lem (column m) n e = ap column (same_some _ _ e)
+column_in_lem (column m) n e = ap column (same_Some _ _ e)
 column_in_lem (sign s) n e = absent n e
 
 sign_in_lem : (t : Tok) (s : Sign) → sign_in t ≡ Some s → t ≡ sign s
@@ -46,12 +47,12 @@ sign_in_lem (name m) n e = absent n e
 sign_in_lem (numeral m) n e = absent n e
 sign_in_lem (quoted q) n e = absent n e
 sign_in_lem (column k) n e = absent n e
-sign_in_lem (sign m) n e = ap sign (same_some _ _ e)
+sign_in_lem (sign m) n e = ap sign (same_Some _ _ e)
 
 value_told : (w : Text) (t : Tok) (v : Val) → Told w t → value_in t ≡ Some v → WritesValue w v
 value_told w (name m) v h e = absent v e
-value_told w (numeral z) v h e = subst (WritesValue w) (same_some _ _ e) h
-value_told w (quoted q) v h e = subst (WritesValue w) (same_some _ _ e) h
+value_told w (numeral z) v h e = subst (WritesValue w) (same_Some _ _ e) h
+value_told w (quoted q) v h e = subst (WritesValue w) (same_Some _ _ e) h
 value_told w (column k) v h e = absent v e
 value_told w (sign s) v h e = absent v e
 
@@ -66,8 +67,8 @@ module _ {X : Type 0} (p : Position) (wanted : Tok → Option X) where
       let a = then_some (take_token p (w ∷ ws)) (λ t. wanted t.0 then (λ x. Some (x, t.1))) r e in
       let b = then_some (wanted a.0.0) (λ x. Some (x, a.0.1)) r a.2 in
       let c = then_some (token p w) (λ t. Some (t, ws)) a.0 a.1 in
-      let q : ◌≡◌ {A = X × List Text} (b.0, a.0.1) r = same_some _ _ b.2 in
-      let s : ◌≡◌ {A = Tok × List Text} (c.0, ws) a.0 = same_some _ _ c.2 in
+      let q : ◌≡◌ {A = X × List Text} (b.0, a.0.1) r = same_Some _ _ b.2 in
+      let s : ◌≡◌ {A = Tok × List Text} (c.0, ws) a.0 = same_Some _ _ c.2 in
       (w, c.0, (λ i. w ∷ (s i).1) ∙ (λ i. w ∷ (q i).1), c.1, (λ i. wanted (s i).0) ∙ b.1 ∙ (λ i. Some (q i).0))
 
   pub taken_take : (w : Text) (t : Tok) (x : X) (on : List Text) → token p w ≡ Some t → wanted t ≡ Some x → taken (w ∷ on) ≡ Some (x, on)

@@ -1,5 +1,4 @@
 pub mod Cutting
 pub mod Numeric
 pub mod Listed
-pub mod Padded
 pub mod Gaps

@@ -1,11 +1,11 @@
 -- Reading a number digit by digit.
-use Rattle.std.proofs.Common.{◌≡◌, ℕ, ◌+◌, ◌-◌, ◌*◌, ◌^◌, ◌<◌, ◌≤◌, true, false, not, ◌&&◌, ◌||◌, eqb, leb, ◌⊎◌, List, [], ◌∷◌, length, get_or, take, drop, Some, None, Option, sym, refl, ap, ◌∙◌, inl, inr, pow-suc, add-one, arith, lit<}
+use Rattle.std.proofs.Common.{◌≡◌, ℕ, ◌+◌, ◌*◌, ◌^◌, ◌<◌, ◌≤◌, true, false, not, ◌&&◌, ◌||◌, eqb, leb, ◌⊎◌, List, [], ◌∷◌, length, get_or, drop, Some, None, Option, sym, refl, ap, ◌∙◌, inl, inr, pow-suc, add-one, arith, lit<}
 use native.Mathlib.Nat.{pow-le-pow_right}
 use Rattle.std.specs.Str.{all_ascii_digits}
 use Rattle.std.specs.Char.{is_ascii_digit}
-use Rattle.std.proofs.lemmas.List.{at_drop_more, take_rest}
+use Rattle.std.proofs.lemmas.List.{at_drop_more}
 use Rattle.std.proofs.lemmas.Bool.{cond-true, cond-false, eq-eqb, ne_eqb, le-leb, and_right, and_from, or_left, or_right, not_from_false}
-use Rattle.words.specs.Number.{read_on, plain, natural, number, minus}
+use Rattle.words.specs.Number.{read_on, plain, natural}
 
 pub digits_more : (ds : List ℕ) (i : ℕ) → i < length ds → true ≡ is_ascii_digit (get_or ds i 0) → all_ascii_digits (drop i ds) ≡ all_ascii_digits (drop (i + 1) ds)
 digits_more ds i h e = at_drop_more all_ascii_digits ds i 0 h ∙ ap (λ t. t && all_ascii_digits (drop (i + 1) ds)) (sym e)
@@ -33,7 +33,3 @@ one_digit_more n d i h l = let e : 10 ^ (i + 1) ≡ 10 ^ i * 10 = ap (λ k. 10 ^
 
 pub short : (n i : ℕ) → n < 10 ^ i → i ≤ 13 → n < 10 ^ 13
 short n i h l = let m : 10 ^ i ≤ 10 ^ 13 = pow-le-pow_right (lit< tt) l in omega arith
-
-pub number_minus : (t : List ℕ) → get_or t 0 0 ≡ 45 → number t ≡ minus (natural (take (length t - 1) (drop 1 t)))
-number_minus [] e = absurd (omega arith)
-number_minus (c ∷ cs) e = cond-true (eqb c 45) _ _ (eq-eqb _ _ e) ∙ ap (λ l. minus (natural l)) (sym (take_rest (c ∷ cs) 1))

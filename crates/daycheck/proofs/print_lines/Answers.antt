@@ -1,4 +1,4 @@
-use Rattle.std.proofs.Common.{◌≡◌, length, sym, ap, ◌∙◌, inl, arith}
+use Rattle.std.proofs.Common.{◌≡◌, length, ap, ◌∙◌, inl, arith}
 use Rattle.words.specs.Lines.{lines}
 use Rattle.words.specs.Rest.{lines_left}
 use Rattle.words.proofs.Cutting.{few_lines}

@@ -36,8 +36,8 @@ returns-clause-steps c =
     let m : n ≡ length (take n ws) = sym (length-take-le n ws (omega arith)) in (
       refl,
       next_word line p k n (c.in_ok-place.ensures ∙ ap (position other) ahead) at
-      ∙ ap (λ j. (p + k, take n ws) ∷ left line (p + k + j)) m
-      ∙ ap (λ l. (p + k, take n l) ∷ left line (p + k + length (take n l))) (sym same),
+          ∙ ap (λ j. (p + k, take n ws) ∷ left line (p + k + j)) m
+          ∙ ap (λ l. (p + k, take n l) ∷ left line (p + k + length (take n l))) (sym same),
     )
 
 pub returns-clause-goes : goal.returns-clause-goes
