@@ -6,6 +6,7 @@ ghost use Rattle.computed.specs.Watches.{most_watches, watches, watches_sound, n
 
 use relation::kinds::Kind;
 use relation::refusals::{Reason, Refusal};
+use relation::rows::Row;
 use source::asks::Source;
 
 // With one more, the last watch would end after the last day.
@@ -62,20 +63,12 @@ impl Source for Watches {
         }
     }
 
-    fn first(&self, k: usize) -> Option<u32> {
-        self.day(k)
-    }
-
-    fn end(&self, k: usize) -> Option<u32> {
-        Some(self.day(k)? + 25)
-    }
-
-    fn value(&self, k: usize, c: usize) -> Option<i64> {
-        self.day(k)?;
-        match c {
-            1 => Some((k % 2) as i64),
-            2 => Some(k as i64),
-            _ => None,
-        }
+    fn row(&self, k: usize) -> Option<Row> {
+        let first = self.day(k)?;
+        Some(Row {
+            first,
+            end: first + 25,
+            values: [(k % 2) as i64, k as i64, 0, 0, 0, 0],
+        })
     }
 }

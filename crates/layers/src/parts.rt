@@ -39,27 +39,6 @@ impl<S: Source> Source for Part<S> {
         }
     }
 
-    fn first(&self, k: usize) -> Option<u32> {
-        match self {
-            Part::Whole(s) => s.first(k),
-            Part::During(s) => s.first(k),
-        }
-    }
-
-    fn end(&self, k: usize) -> Option<u32> {
-        match self {
-            Part::Whole(s) => s.end(k),
-            Part::During(s) => s.end(k),
-        }
-    }
-
-    fn value(&self, k: usize, c: usize) -> Option<i64> {
-        match self {
-            Part::Whole(s) => s.value(k, c),
-            Part::During(s) => s.value(k, c),
-        }
-    }
-
     fn row(&self, k: usize) -> Option<Row> {
         match self {
             Part::Whole(s) => s.row(k),

@@ -48,19 +48,6 @@ impl<S: Source> Source for Project<S> {
         self.source.kind(below)
     }
 
-    fn first(&self, k: usize) -> Option<u32> {
-        self.source.first(k)
-    }
-
-    fn end(&self, k: usize) -> Option<u32> {
-        self.source.end(k)
-    }
-
-    fn value(&self, k: usize, c: usize) -> Option<i64> {
-        let below = self.columns.get(c)?;
-        self.source.value(k, below)
-    }
-
     fn row(&self, k: usize) -> Option<Row> {
         let row = self.source.row(k)?;
         let values = self.columns.pick(&row.values);

@@ -88,19 +88,6 @@ impl<S: Source> Source for Select<S> {
         self.source.kind(c)
     }
 
-    fn first(&self, k: usize) -> Option<u32> {
-        Some(self.row(k)?.first)
-    }
-
-    fn end(&self, k: usize) -> Option<u32> {
-        Some(self.row(k)?.end)
-    }
-
-    fn value(&self, k: usize, c: usize) -> Option<i64> {
-        self.row(k)?;
-        self.source.value(k, c)
-    }
-
     fn row(&self, k: usize) -> Option<Row> {
         self.source.row(k).filter(|row| self.keeps(&row.values))
     }

@@ -47,33 +47,6 @@ impl<L: Source, R: Source> Source for Union<L, R> {
         self.left.kind(c)
     }
 
-    fn first(&self, k: usize) -> Option<u32> {
-        let n = self.left.places();
-        if k < n {
-            self.left.first(k)
-        } else {
-            self.right.first(k - n)
-        }
-    }
-
-    fn end(&self, k: usize) -> Option<u32> {
-        let n = self.left.places();
-        if k < n {
-            self.left.end(k)
-        } else {
-            self.right.end(k - n)
-        }
-    }
-
-    fn value(&self, k: usize, c: usize) -> Option<i64> {
-        let n = self.left.places();
-        if k < n {
-            self.left.value(k, c)
-        } else {
-            self.right.value(k - n, c)
-        }
-    }
-
     fn row(&self, k: usize) -> Option<Row> {
         let n = self.left.places();
         if k < n {

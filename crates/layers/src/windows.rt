@@ -48,19 +48,6 @@ impl<S: Source> Source for Window<S> {
         self.source.kind(c)
     }
 
-    fn first(&self, k: usize) -> Option<u32> {
-        Some(self.row(k)?.first)
-    }
-
-    fn end(&self, k: usize) -> Option<u32> {
-        Some(self.row(k)?.end)
-    }
-
-    fn value(&self, k: usize, c: usize) -> Option<i64> {
-        self.row(k)?;
-        self.source.value(k, c)
-    }
-
     fn row(&self, k: usize) -> Option<Row> {
         let row = self.source.row(k)?;
         let first = self.days.first.max(row.first);

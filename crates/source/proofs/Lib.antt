@@ -1,7 +1,6 @@
 pub mod Cells
 pub mod TableRows
 pub mod Places
-pub mod Rowed
 pub mod Following
 pub mod Leads
 pub mod Risen

@@ -24,26 +24,31 @@ pub trait Source {
     fn kind(&self, c: usize) -> Option<Kind>
         ensures { result ≡ kind_of (meaning self.now) c };
 
-    fn first(&self, k: usize) -> Option<u32>
-        ensures { result ≡ first_of (meaning self.now) k };
-
-    fn end(&self, k: usize) -> Option<u32>
-        ensures { result ≡ end_of (meaning self.now) k };
-
-    fn value(&self, k: usize, c: usize) -> Option<i64>
-        ensures { result ≡ value_of (meaning self.now) k c };
-
     // The whole row at a place, unused values 0.
     fn row(&self, k: usize) -> Option<Row>
-        ensures { result ≡ row_of (meaning self.now) k }
+        ensures { result ≡ row_of (meaning self.now) k };
+
+    fn first(&self, k: usize) -> Option<u32>
+        ensures { result ≡ first_of (meaning self.now) k }
     {
-        let first = self.first(k)?;
-        let end = self.end(k)?;
-        let mut values = [0; 6];
-        for c in 0..self.columns() {
-            values[c] = self.value(k, c + 1)?;
+        Some(self.row(k)?.first)
+    }
+
+    fn end(&self, k: usize) -> Option<u32>
+        ensures { result ≡ end_of (meaning self.now) k }
+    {
+        Some(self.row(k)?.end)
+    }
+
+    fn value(&self, k: usize, c: usize) -> Option<i64>
+        ensures { result ≡ value_of (meaning self.now) k c }
+    {
+        let row = self.row(k)?;
+        if c >= 1 && c <= self.columns() {
+            Some(row.values[c - 1])
+        } else {
+            None
         }
-        Some(Row { first, end, values })
     }
 
     // A place from k on such that no filled place before it begins with the values `lead`.

@@ -204,23 +204,6 @@ impl Source for Table<'_> {
         self.kinds.get(c.checked_sub(1)?).copied()
     }
 
-    fn first(&self, k: usize) -> Option<u32> {
-        Some(self.held(k)?.first)
-    }
-
-    fn end(&self, k: usize) -> Option<u32> {
-        Some(self.held(k)?.end)
-    }
-
-    fn value(&self, k: usize, c: usize) -> Option<i64> {
-        let row = self.held(k)?;
-        if c >= 1 && c <= self.kinds.len() {
-            Some(row.values[c - 1])
-        } else {
-            None
-        }
-    }
-
     fn row(&self, k: usize) -> Option<Row> {
         Some(self.held(k)?.trimmed(self.kinds.len()))
     }

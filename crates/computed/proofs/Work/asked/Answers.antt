@@ -18,8 +18,8 @@ returns c =
     let m = watches c.args.count in
     let v = windowed m first end in
     let a_is : watches c.in_ok-watches.watches.count ≡ m = ap watches new.1 in
-    let b = windowed (watches w.source.count) w.first w.end in
-    let b_is : b ≡ v = cc (win.1.0, win.1.1, win.1.2) in
+    let b = windowed (watches w.source.count) w.days.first w.days.end in
+    let b_is : b ≡ v = cc (win.1.0, win.1.1) in
     let asked : Collects (collected (no_uncovered m v m 10 100) (uncovered_plan m v m 10 100) rows index) (uncovered m v m 10 100) rows index c.list_uncovered.result c.list_uncovered.new.rows c.list_uncovered.new.index =
     subst (λ x. Collects (collected (no_uncovered m x m 10 100) (uncovered_plan m x m 10 100) rows index) (uncovered m x m 10 100) rows index c.list_uncovered.result c.list_uncovered.new.rows c.list_uncovered.new.index) b_is
     (subst (λ x. Collects (collected (no_uncovered x b x 10 100) (uncovered_plan x b x 10 100) rows index) (uncovered x b x 10 100) rows index c.list_uncovered.result c.list_uncovered.new.rows c.list_uncovered.new.index) a_is c.list_uncovered.ensures) in

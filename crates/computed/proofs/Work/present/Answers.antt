@@ -18,8 +18,8 @@ returns c =
     let m = watches c.args.count in
     let v = windowed m first end in
     let a_is : watches c.in_ok-watches.watches.count ≡ m = ap watches new.1 in
-    let b = windowed (watches w.source.count) w.first w.end in
-    let b_is : b ≡ v = cc (win.1.0, win.1.1, win.1.2) in
+    let b = windowed (watches w.source.count) w.days.first w.days.end in
+    let b_is : b ≡ v = cc (win.1.0, win.1.1) in
     let asked : Collects (collected (no_bare m v) (bare_plan m v) rows index) (bare m v) rows index c.list_bare.result c.list_bare.new.rows c.list_bare.new.index =
     subst (λ x. Collects (collected (no_bare m x) (bare_plan m x) rows index) (bare m x) rows index c.list_bare.result c.list_bare.new.rows c.list_bare.new.index) b_is
     (subst (λ x. Collects (collected (no_bare x b) (bare_plan x b) rows index) (bare x b) rows index c.list_bare.result c.list_bare.new.rows c.list_bare.new.index) a_is c.list_bare.ensures) in

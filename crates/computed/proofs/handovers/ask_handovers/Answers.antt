@@ -14,6 +14,6 @@ returns c =
     let n = c.args.all.count in
     let a = c.in_ok-pairs.ensures in
     let p = c.in_ok-pairs.pairs in
-    let m = joined_of (pairs_of (items p.pairs)) (excepted (watches p.left.left.count) (windowed (watches p.left.right.source.count) p.left.right.first p.left.right.end)) (watches p.right.count) in
+    let m = joined_of (pairs_of (items p.pairs)) (excepted (watches p.left.left.count) (windowed (watches p.left.right.source.count) p.left.right.days.first p.left.right.days.end)) (watches p.right.count) in
     selected_plan later (no_pairs n c.args.days.first c.args.days.end) (pairs_plan (watches n) c.args.days.first c.args.days.end) m _ _ c.new.result
-    a.0 a.1 (λ x w i. selected (joined_of (pairs_of (items (w.0 i).pairs)) (excepted (watches (w.0 i).left.left.count) (windowed (watches (w.0 i).left.right.source.count) (w.0 i).left.right.first (w.0 i).left.right.end)) (watches (w.0 i).right.count)) (w.1 i)) c.new.ensures
+    a.0 a.1 (λ x w i. selected (joined_of (pairs_of (items (w.0 i).pairs)) (excepted (watches (w.0 i).left.left.count) (windowed (watches (w.0 i).left.right.source.count) (w.0 i).left.right.days.first (w.0 i).left.right.days.end)) (watches (w.0 i).right.count)) (w.1 i)) c.new.ensures

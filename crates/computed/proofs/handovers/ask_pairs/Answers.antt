@@ -12,6 +12,6 @@ returns c =
     let n = c.args.all.count in
     let a = c.in_ok-outside.ensures in
     let o = c.in_ok-outside.outside in
-    let m = excepted (watches o.left.count) (windowed (watches o.right.source.count) o.right.first o.right.end) in
+    let m = excepted (watches o.left.count) (windowed (watches o.right.source.count) o.right.days.first o.right.days.end) in
     joined_plan by_watchman (no_outside n c.args.days.first c.args.days.end) (outside_plan (watches n) c.args.days.first c.args.days.end) m (watches n) _ _ c.new.result
-    a.0 a.1 (watches_sound n c.args.all.few) (λ x w i. joined_of (pairs_of (w.2 i)) (excepted (watches (w.0 i).left.count) (windowed (watches (w.0 i).right.source.count) (w.0 i).right.first (w.0 i).right.end)) (watches (w.1 i).count)) c.new.ensures
+    a.0 a.1 (watches_sound n c.args.all.few) (λ x w i. joined_of (pairs_of (w.2 i)) (excepted (watches (w.0 i).left.count) (windowed (watches (w.0 i).right.source.count) (w.0 i).right.days.first (w.0 i).right.days.end)) (watches (w.1 i).count)) c.new.ensures
