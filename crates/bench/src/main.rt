@@ -7,7 +7,6 @@ use except::excepts::Except;
 use join::joins::Join;
 use join::pairs::Pair;
 use relation::bounds::MOST_WORK;
-use relation::columns::Kinds;
 use relation::kinds::Kind;
 use relation::refusals::Refusal;
 use relation::rows::Row;
@@ -15,7 +14,7 @@ use source::tables::Table;
 use std::alloc::{AllocError, Global};
 use std::env;
 use std::time::Instant;
-use tree::Node;
+use workspace::Workspace;
 
 const SIZES: [usize; 3] = [256, 4096, 8192];
 
@@ -31,79 +30,51 @@ impl Random {
             .wrapping_add(1_442_695_040_888_963_407);
         ((self.0 >> 33) & 0x7fff_ffff) as u32 % n.max(1)
     }
+
+    // A row of one of so many names and another number.
+    fn row(&mut self, names: u32) -> Row {
+        let name = self.below(names);
+        let other = self.below(3);
+        let first = self.below(3000);
+        let days = self.below(50);
+        Row {
+            first,
+            end: first.saturating_add(days).saturating_add(1),
+            values: [i64::from(name), i64::from(other), 0, 0, 0, 0],
+        }
+    }
 }
+
+// The kinds of each list: two numbers.
+const KINDS: [Kind; 2] = [Kind::Number; 2];
 
 // N rows of two numbers: about four for each first number, on some of 3,000 days.
 fn random_rows(heap: Global, n: usize, seed: u64) -> Result<Vec<Row>, AllocError> {
     let mut random = Random(seed);
-    let mut rows = Vec::new(heap);
     let names = ((n / 4) & 0xffff_ffff) as u32;
-    for _ in 0..n {
-        let name = random.below(names);
-        let other = random.below(3);
-        let first = random.below(3000);
-        let days = random.below(50);
-        rows.push(Row {
-            first,
-            end: first.saturating_add(days).saturating_add(1),
-            values: [i64::from(name), i64::from(other), 0, 0, 0, 0],
-        })?;
-    }
-    Ok(rows)
-}
-
-fn kinds() -> Kinds {
-    Kinds {
-        count: 2,
-        at: [Kind::Number; 6],
-    }
-}
-
-// The areas that a job works in.
-#[derive(Drop)]
-struct Work {
-    rows: Vec<Row>,
-    index: Vec<Node>,
-}
-
-impl Work {
-    fn new(heap: Global) -> Result<Work, AllocError> {
-        Ok(Work {
-            rows: vec![in heap; Row::blank(); MOST_WORK]?,
-            index: vec![in heap; Node::blank(); MOST_WORK]?,
-        })
-    }
+    (0..n).map(|_| random.row(names)).collect(heap)
 }
 
 // The rows of a, coalesced.
-fn coalesced(heap: Global, rows: &[Row], work: &mut Work) -> anyhow::Result<Vec<Row>> {
-    let count = collect_rows(
-        rows,
-        kinds(),
-        work.rows.as_mut_slice(),
-        work.index.as_mut_slice(),
-    )?;
-    Ok(
-        work.rows
-            .as_slice()
-            .iter()
-            .take(count)
-            .copied()
-            .collect(heap)?,
-    )
+fn coalesced(heap: Global, rows: &[Row], work: &mut Workspace) -> anyhow::Result<Vec<Row>> {
+    let (work_rows, index) = work.lend();
+    let count = collect_rows(rows, &KINDS, work_rows, index)?;
+    Ok(work.list(count).to_vec(heap)?)
 }
 
 // How many rows a has without b.
-fn excepted(a: &[Row], b: &[Row], work: &mut Work) -> Result<usize, Refusal> {
-    let except = Except::new(Table::open(a, kinds())?, Table::open(b, kinds())?)?;
-    collect(&except, work.rows.as_mut_slice(), work.index.as_mut_slice())
+fn excepted(a: &[Row], b: &[Row], work: &mut Workspace) -> Result<usize, Refusal> {
+    let except = Except::new(Table::open(a, &KINDS)?, Table::open(b, &KINDS)?)?;
+    let (rows, index) = work.lend();
+    collect(&except, rows, index)
 }
 
 // How many rows a and b have joined on their first column.
-fn joined(a: &[Row], b: &[Row], work: &mut Work) -> Result<usize, Refusal> {
+fn joined(a: &[Row], b: &[Row], work: &mut Workspace) -> Result<usize, Refusal> {
     let pairs = [Pair { left: 1, right: 1 }];
-    let join = Join::new(Table::open(a, kinds())?, Table::open(b, kinds())?, &pairs)?;
-    collect(&join, work.rows.as_mut_slice(), work.index.as_mut_slice())
+    let join = Join::new(Table::open(a, &KINDS)?, Table::open(b, &KINDS)?, &pairs)?;
+    let (rows, index) = work.lend();
+    collect(&join, rows, index)
 }
 
 // Prints a job's row count, and where times are wanted how long it took.
@@ -126,7 +97,7 @@ fn report(
 // Does each job over n rows.
 fn run_size(rt: &HostRuntime, n: usize, timed: bool) -> anyhow::Result<()> {
     let heap = rt.alloc();
-    let mut work = Work::new(heap)?;
+    let mut work = Workspace::new(heap, MOST_WORK)?;
     let left = random_rows(heap, n, 1)?;
     let right = random_rows(heap, n, 2)?;
     println!(rt; "{n} rows")?;

@@ -16,22 +16,22 @@ const MOST_WATCHES: usize = 99_998;
 #[derive(Clone, Copy)]
 pub struct Watches {
     count: usize,
+    ghost few: { count ≤ most_watches },
 }
 
 impl Watches {
     // So many places; refused where the last watch would have no period.
     pub fn new(count: usize) -> Result<Watches, Refusal>
-        ensures { Answers result (no_watches count) (λ s. (s.count ≡ count) × (s.count ≤ most_watches)) }
+        ensures { Answers result (no_watches count) (λ s. s.count ≡ count) }
     {
         if count > MOST_WATCHES {
-            return Err(Refusal::plain(Reason::NoPeriod));
+            return Err(Reason::NoPeriod.into());
         }
         Ok(Watches { count })
     }
 
     // The first day of the watch at place k.
     fn day(&self, k: usize) -> Option<u32>
-        requires { self.now.count ≤ most_watches }
         ensures { result ≡ first_of (watches self.now.count) k }
     {
         if k < self.count && k % 3 != 2 {
@@ -45,9 +45,7 @@ impl Watches {
 impl Source for Watches {
     ghost meaning = { λ s. watches s.count };
 
-    ghost accepted = { λ s. s.count ≤ most_watches };
-
-    ghost sound = { λ s h. watches_sound s.count h };
+    ghost sound = { λ s. watches_sound s.count s.few };
 
     fn columns(&self) -> usize {
         2

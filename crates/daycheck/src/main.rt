@@ -1,13 +1,28 @@
 // Reads a script from standard input, prints what its lines say, and whether it is accepted.
 #![tactic(auto)]
 
-mod lines;
-mod parts;
+mod show;
 
-use lines::print_lines;
+use grammar::forms::read_line;
+use grammar::lines::Line;
 use script::check::{MOST_BYTES, check};
 use script::script::CheckedScript;
-use std::io::Read;
+use show::LineText;
+use std::io::{self, Read};
+use words::lines::Lines;
+
+// A line for each line that is not skipped: its number, its form and its parts.
+fn print_lines(rt: &HostRuntime, text: &[u8]) -> io::Result<()> {
+    for (i, line) in Lines::new(text).enumerate() {
+        let number = i + 1;
+        match read_line(line) {
+            Some(Line::Skip) => {}
+            Some(said) => println!(rt; "{number} {}", LineText(said))?,
+            None => println!(rt; "{number} no form")?,
+        }
+    }
+    Ok(())
+}
 
 // Prints a script that the check accepted.
 fn print_script(rt: &HostRuntime, script: &CheckedScript<'_>) -> anyhow::Result<()> {
@@ -28,12 +43,7 @@ fn run(rt: &HostRuntime) -> anyhow::Result<()> {
             if refusal.line != 0 {
                 print_lines(rt, text.as_slice())?;
             }
-            println!(rt;
-                "refused {} {} {}",
-                refusal.reason.number(),
-                refusal.line,
-                refusal.written
-            )?;
+            println!(rt; "{refusal}")?;
         }
     }
     Ok(())

@@ -7,27 +7,21 @@ use lists::header::{Header, read_header};
 use lists::show::ListText;
 use relation::rows::Row;
 use std::io::Read;
-use tree::Node;
 use words::lines::Lines;
+use workspace::Workspace;
 
 // Prints the rows coalesced.
 fn print_coalesced(rt: &HostRuntime, header: Header<'_>, rows: &[Row]) -> anyhow::Result<()> {
-    let heap = rt.alloc();
-    let mut work = vec![in heap; Row::blank(); rows.len()]?;
-    let mut index = vec![in heap; Node::blank(); rows.len()]?;
-    match collect_rows(
-        rows,
-        header.kinds,
-        work.as_mut_slice(),
-        index.as_mut_slice(),
-    ) {
+    let kinds = header.kinds.as_slice();
+    let mut work = Workspace::new(rt.alloc(), rows.len())?;
+    let (work_rows, index) = work.lend();
+    match collect_rows(rows, kinds, work_rows, index) {
         Ok(count) => {
             println!(rt; "coalesced to {count} rows")?;
             let list = ListText {
                 name: header.name,
-                kinds: header.kinds,
-                rows: work.as_slice(),
-                count,
+                kinds,
+                rows: work.list(count),
             };
             print!(rt; "{list}")?;
         }
@@ -44,7 +38,7 @@ fn run(rt: &HostRuntime) -> anyhow::Result<()> {
     match read_header(first) {
         Err(reason) => println!(rt; "line 1: refused {}", reason.number())?,
         Ok(header) => {
-            let rows = read_rows(rt, &mut lines, header.kinds)?;
+            let rows = read_rows(rt, &mut lines, header.kinds.as_slice())?;
             println!(rt; "read {} rows", rows.len())?;
             print_coalesced(rt, header, rows.as_slice())?;
         }

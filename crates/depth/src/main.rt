@@ -66,6 +66,7 @@ fn arrive(heap: Global, arrival: Arrival) -> Result<Vec<u32>, AllocError>
 }
 
 // How many nodes stand on the longest way down from a link.
+#[tactic(auto, using(tree::proofs::Walking::parts, tree::proofs::Walking::none_held, crate::proofs::Heights::height_size))]
 fn depth(nodes: &[Node], link: u32) -> u32
     requires holds { Holds nodes.now link }
     requires few { length nodes.now < 2 ^ 32 }

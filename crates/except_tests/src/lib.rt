@@ -21,12 +21,11 @@ pub fn write_except(
         Table::open(left, left_kinds)?,
         Table::open(right, right_kinds)?,
     )?;
-    let mut count = 0;
+    let room = out.len();
     for (slot, row) in out.iter_mut().zip(Filled::new(&source)) {
         *slot = row;
-        count += 1;
     }
-    Ok(count)
+    Ok(Filled::new(&source).take(room).count())
 }
 
 #[cfg(test)]

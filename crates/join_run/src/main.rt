@@ -18,8 +18,7 @@ fn row(first: u32, end: u32, values: [i64; 6]) -> Row {
 }
 
 // Writes the rows of a source from filled place to filled place, each with its place.
-fn write_rows<S: Source>(rt: &impl Print, source: &S) -> io::Result<()>
-{
+fn write_rows<S: Source>(rt: &impl Print, source: &S) -> io::Result<()> {
     let places = source.places();
     let mut k = source.seek(0, &[]);
     while k < places {

@@ -1,8 +1,9 @@
 // What a line is answered with.
 use relation::refusals::Refusal;
+use std::error::Error;
 use std::fmt;
 
-#[derive(Clone, Copy)]
+#[derive(Clone, Copy, Debug)]
 pub enum Answer {
     // A draft was begun, and its slip lies on the desk.
     Slip,
@@ -12,9 +13,14 @@ pub enum Answer {
     Freed(usize),
     // The bytes that were written.
     Bytes(usize),
-    Refused(Refusal),
     // A setting of the program's own was changed.
     Set,
+}
+
+// Why a line is not done.
+#[derive(Clone, Copy, Debug)]
+pub enum Failure {
+    Refused(Refusal),
     // No slip of that name lies on the desk.
     NoSlip,
     // The line is no command.
@@ -30,11 +36,26 @@ impl fmt::Display for Answer {
             Answer::Rows(n) => write!(f, "{n} rows"),
             Answer::Freed(n) => write!(f, "{n} freed"),
             Answer::Bytes(n) => write!(f, "{n} bytes"),
-            Answer::Refused(refusal) => write!(f, "{refusal}"),
             Answer::Set => write!(f, "set"),
-            Answer::NoSlip => write!(f, "no slip"),
-            Answer::NoCommand => write!(f, "no command"),
-            Answer::DeskFull => write!(f, "desk full"),
         }
+    }
+}
+
+impl fmt::Display for Failure {
+    fn fmt<W: fmt::Write>(&self, f: &mut fmt::Formatter<W>) -> fmt::Result {
+        match self {
+            Failure::Refused(refusal) => write!(f, "{refusal}"),
+            Failure::NoSlip => write!(f, "no slip"),
+            Failure::NoCommand => write!(f, "no command"),
+            Failure::DeskFull => write!(f, "desk full"),
+        }
+    }
+}
+
+impl Error for Failure {}
+
+impl From<Refusal> for Failure {
+    fn from(refusal: Refusal) -> Failure {
+        Failure::Refused(refusal)
     }
 }

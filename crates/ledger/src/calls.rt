@@ -1,11 +1,13 @@
 // Each command as a call of a register, which goes on from what it had.
 ghost use Rattle.ledger.specs.Histories.{GoesOn};
 
-use crate::answers::Answer;
+use crate::answers::{Answer, Failure};
 use crate::commands::Command;
-use crate::desk::{Paper, find, lay};
+use crate::desk::{Paper, Which, find, lay};
 use register::registers::Register;
+use register::slips::Slip;
 use relation::kinds::Kind;
+use relation::refusals::Refusal;
 use relation::rows::Row;
 use std::alloc::{AllocError, Global};
 use tree::Node;
@@ -15,10 +17,9 @@ const WORK: usize = 64;
 
 const OUTPUT: usize = 1024;
 
-// The areas that calls are handed, how much of each, and which register is in use.
+// The areas that calls are handed, and how much of each.
 #[derive(Drop)]
 pub struct Areas {
-    pub second: bool,
     rows: Vec<Row>,
     index: Vec<Node>,
     output: Vec<u8>,
@@ -26,10 +27,16 @@ pub struct Areas {
     output_handed: usize,
 }
 
+// What lies beside the registers: which of them is in use, the slips that they gave, and the areas.
+pub struct Bench<'a> {
+    pub in_use: Which,
+    pub desk: Vec<Paper<'a>>,
+    pub areas: Areas,
+}
+
 impl Areas {
     pub fn new(heap: Global) -> Result<Areas, AllocError> {
         Ok(Areas {
-            second: false,
             rows: vec![in heap; Row::blank(); WORK]?,
             index: vec![in heap; Node::blank(); WORK]?,
             output: vec![in heap; 0; OUTPUT]?,
@@ -47,132 +54,108 @@ impl Areas {
         }
         Ok(())
     }
-}
 
-fn draft<'a>(
-    register: &mut Register<'_>,
-    desk: &mut Vec<Paper<'a>>,
-    second: bool,
-    name: &'a [u8],
-    kinds: &[Kind],
-) -> Answer
-    ensures { GoesOn register.old.store register.new.store }
-{
-    match register.draft(name, kinds) {
-        Err(refusal) => Answer::Refused(refusal),
-        Ok(slip) => lay(register, desk, Paper { name, second, slip }, Answer::Slip),
+    fn publish(&mut self, register: &mut Register<'_>, slip: Slip) -> Result<usize, (Refusal, Slip)>
+        ensures { GoesOn register.old.store register.new.store }
+    {
+        let upto = self.work_handed.min(self.rows.len()).min(self.index.len());
+        let work = &mut self.rows.as_mut_slice()[..upto];
+        let index = &mut self.index.as_mut_slice()[..upto];
+        register.publish(slip, work, index)
+    }
+
+    fn show(&mut self, register: &Register<'_>, name: &[u8]) -> Result<Answer, Failure> {
+        let upto = self.output_handed.min(self.output.len());
+        let count = register.show(name, &mut self.output.as_mut_slice()[..upto])?;
+        Ok(Answer::Bytes(count))
     }
 }
 
-fn put(
-    register: &mut Register<'_>,
-    desk: &Vec<Paper<'_>>,
-    second: bool,
-    name: &[u8],
-    kinds: &[Kind],
-    row: Row,
-) -> Answer
-    ensures { GoesOn register.old.store register.new.store }
-{
-    let Some(i) = find(desk, name, second) else {
-        return Answer::NoSlip;
-    };
-    match register.put(&desk[i].slip, row, kinds) {
-        Ok(count) => Answer::Rows(count),
-        Err(refusal) => Answer::Refused(refusal),
+impl<'a> Bench<'a> {
+    fn draft(
+        &mut self,
+        register: &mut Register<'_>,
+        name: &'a [u8],
+        kinds: &[Kind],
+    ) -> Result<Answer, Failure>
+        ensures { GoesOn register.old.store register.new.store }
+    {
+        let slip = register.draft(name, kinds)?;
+        let from = self.in_use;
+        lay(register, &mut self.desk, Paper { name, from, slip })?;
+        Ok(Answer::Slip)
     }
-}
 
-fn publish<'a>(
-    register: &mut Register<'_>,
-    desk: &mut Vec<Paper<'a>>,
-    areas: &mut Areas,
-    name: &[u8],
-) -> Answer
-    ensures { GoesOn register.old.store register.new.store }
-{
-    let Some(i) = find(desk, name, areas.second) else {
-        return Answer::NoSlip;
-    };
-    let Paper { name, second, slip } = desk.remove(i);
-    let upto = areas
-        .work_handed
-        .min(areas.rows.len())
-        .min(areas.index.len());
-    let work = &mut areas.rows.as_mut_slice()[0..upto];
-    let index = &mut areas.index.as_mut_slice()[0..upto];
-    match register.publish(slip, work, index) {
-        Ok(count) => Answer::Rows(count),
-        Err((refusal, slip)) => lay(
-            register,
-            desk,
-            Paper { name, second, slip },
-            Answer::Refused(refusal),
-        ),
+    fn put(
+        &self,
+        register: &mut Register<'_>,
+        name: &[u8],
+        kinds: &[Kind],
+        row: Row,
+    ) -> Result<Answer, Failure>
+        ensures { GoesOn register.old.store register.new.store }
+    {
+        let i = find(&self.desk, name, self.in_use).ok_or(Failure::NoSlip)?;
+        let count = register.put(&self.desk[i].slip, row, kinds)?;
+        Ok(Answer::Rows(count))
     }
-}
 
-fn abandon(
-    register: &mut Register<'_>,
-    desk: &mut Vec<Paper<'_>>,
-    second: bool,
-    name: &[u8],
-) -> Answer
-    ensures { GoesOn register.old.store register.new.store }
-{
-    let Some(i) = find(desk, name, second) else {
-        return Answer::NoSlip;
-    };
-    let Paper {
-        name: _,
-        second: _,
-        slip,
-    } = desk.remove(i);
-    match register.abandon(slip) {
-        Ok(count) => Answer::Freed(count),
-        Err(refusal) => Answer::Refused(refusal),
-    }
-}
-
-fn show(register: &Register<'_>, areas: &mut Areas, name: &[u8]) -> Answer {
-    let upto = areas.output_handed.min(areas.output.len());
-    match register.show(name, &mut areas.output.as_mut_slice()[0..upto]) {
-        Ok(count) => Answer::Bytes(count),
-        Err(refusal) => Answer::Refused(refusal),
-    }
-}
-
-// Does a command at the register in use.
-pub fn serve<'a>(
-    register: &mut Register<'_>,
-    desk: &mut Vec<Paper<'a>>,
-    areas: &mut Areas,
-    command: Command<'a>,
-) -> Answer
-    ensures { GoesOn register.old.store register.new.store }
-{
-    let second = areas.second;
-    match command {
-        Command::Use(number) => {
-            areas.second = number == 2;
-            Answer::Set
+    fn publish(&mut self, register: &mut Register<'_>, name: &[u8]) -> Result<Answer, Failure>
+        ensures { GoesOn register.old.store register.new.store }
+    {
+        let i = find(&self.desk, name, self.in_use).ok_or(Failure::NoSlip)?;
+        let Paper { name, from, slip } = self.desk.remove(i);
+        match self.areas.publish(register, slip) {
+            Ok(count) => Ok(Answer::Rows(count)),
+            Err((refusal, slip)) => {
+                lay(register, &mut self.desk, Paper { name, from, slip })?;
+                Err(refusal.into())
+            }
         }
-        Command::Work(count) => {
-            areas.work_handed = count;
-            Answer::Set
+    }
+
+    fn abandon(&mut self, register: &mut Register<'_>, name: &[u8]) -> Result<Answer, Failure>
+        ensures { GoesOn register.old.store register.new.store }
+    {
+        let i = find(&self.desk, name, self.in_use).ok_or(Failure::NoSlip)?;
+        let Paper {
+            name: _,
+            from: _,
+            slip,
+        } = self.desk.remove(i);
+        let count = register.abandon(slip)?;
+        Ok(Answer::Freed(count))
+    }
+
+    // Does a command at the register in use.
+    pub fn serve(
+        &mut self,
+        register: &mut Register<'_>,
+        command: Command<'a>,
+    ) -> Result<Answer, Failure>
+        ensures { GoesOn register.old.store register.new.store }
+    {
+        match command {
+            Command::Use(which) => {
+                self.in_use = which;
+                Ok(Answer::Set)
+            }
+            Command::Work(count) => {
+                self.areas.work_handed = count;
+                Ok(Answer::Set)
+            }
+            Command::Output(count) => {
+                self.areas.output_handed = count;
+                Ok(Answer::Set)
+            }
+            Command::Draft(name, letters) => self.draft(register, name, letters.as_slice()),
+            Command::Put(name, letters, row) => {
+                self.put(register, name, letters.as_slice(), row)
+            }
+            Command::Publish(name) => self.publish(register, name),
+            Command::Abandon(name) => self.abandon(register, name),
+            Command::Drop(name) => Ok(Answer::Freed(register.drop(name)?)),
+            Command::Show(name) => self.areas.show(register, name),
         }
-        Command::Output(count) => {
-            areas.output_handed = count;
-            Answer::Set
-        }
-        Command::Draft(name, letters) => draft(register, desk, second, name, letters.kinds()),
-        Command::Put(name, letters, row) => put(register, desk, second, name, letters.kinds(), row),
-        Command::Publish(name) => publish(register, desk, areas, name),
-        Command::Abandon(name) => abandon(register, desk, second, name),
-        Command::Drop(name) => match register.drop(name) {
-            Ok(count) => Answer::Freed(count),
-            Err(refusal) => Answer::Refused(refusal),
-        },
-        Command::Show(name) => show(register, areas, name),
     }
 }

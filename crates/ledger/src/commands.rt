@@ -1,9 +1,12 @@
 // The commands of the program's lines.
+use crate::desk::Which;
 use relation::bounds::MOST_COLUMNS;
+use relation::few::Few;
 use relation::kinds::Kind;
 use relation::rows::Row;
 use relation::values::word_value;
-use takers::read_value;
+use takers::{read_value, take_end};
+use words::kinds::kind_of;
 use words::numbers::signed;
 use words::reader::Words;
 use words::tokens::Value;
@@ -11,23 +14,13 @@ use words::tokens::Value;
 // The most letters of kinds that a line may have: more than a relation takes, so that a call can refuse them.
 const MOST_LETTERS: usize = 8;
 
-// The kinds that a line's letters say: the first `count`.
-#[derive(Clone, Copy)]
-pub struct Letters {
-    count: usize,
-    kinds: [Kind; MOST_LETTERS],
-}
-
-impl Letters {
-    pub fn kinds(&self) -> &[Kind] {
-        &self.kinds[0..self.count.min(MOST_LETTERS)]
-    }
-}
+// The kinds that a line's letters say.
+pub type Letters = Few<Kind, MOST_LETTERS>;
 
 #[derive(Clone, Copy, Drop)]
 pub enum Command<'a> {
     // use 1, use 2: the register that takes the calls from here on.
-    Use(usize),
+    Use(Which),
     // work N: how many entries of each work area are handed to publish.
     Work(usize),
     // output N: how many bytes of output are handed to show.
@@ -46,47 +39,38 @@ pub enum Command<'a> {
     Show(&'a [u8]),
 }
 
-fn take_size(words: &mut Words<'_>) -> Option<usize> {
-    let number = signed(words.next()?.text)?;
-    match usize::try_from(number) {
-        Ok(size) => Some(size),
-        Err(_) => None,
-    }
+// A number that fits its type: a size, or a day.
+fn take_number<T: TryFrom<i64>>(words: &mut Words<'_>) -> Option<T>
+where
+    T::Error: Drop,
+{
+    T::try_from(signed(words.next()?.text)?).ok()
 }
 
-fn take_day(words: &mut Words<'_>) -> Option<u32> {
-    let number = signed(words.next()?.text)?;
-    match u32::try_from(number) {
-        Ok(day) => Some(day),
-        Err(_) => None,
-    }
-}
-
-fn letter(b: u8) -> Option<Kind> {
-    match b {
-        b'n' => Some(Kind::Number),
-        b'w' => Some(Kind::Word),
-        _ => None,
+// The register of a number: 2 is the second, and each other number the first.
+fn take_register(words: &mut Words<'_>) -> Option<Which> {
+    let number: usize = take_number(words)?;
+    if number == 2 {
+        Some(Which::Second)
+    } else {
+        Some(Which::First)
     }
 }
 
 // Letters n and w; a hyphen stands for none.
 fn take_letters(words: &mut Words<'_>) -> Option<Letters> {
     let text = words.next()?.text;
-    let mut kinds = [Kind::Number; MOST_LETTERS];
+    let mut letters = Letters::new(Kind::Number);
     if text == b"-".as_slice() {
-        return Some(Letters { count: 0, kinds });
+        return Some(letters);
     }
     if text.len() > MOST_LETTERS {
         return None;
     }
-    for i in 0..text.len() {
-        kinds[i] = letter(text[i])?;
+    for letter in text {
+        letters.push(kind_of(*letter)?);
     }
-    Some(Letters {
-        count: text.len(),
-        kinds,
-    })
+    Some(letters)
 }
 
 // The number that a value is held as.
@@ -99,12 +83,12 @@ fn held(word: &[u8]) -> Option<i64> {
 
 // FROM UNTIL VALUE .., with six values at the most; the others are 0.
 fn take_row(words: &mut Words<'_>) -> Option<Row> {
-    let first = take_day(words)?;
-    let end = take_day(words)?;
+    let first = take_number(words)?;
+    let end = take_number(words)?;
     let mut values = [0; MOST_COLUMNS];
-    for i in 0..MOST_COLUMNS {
+    for value in &mut values {
         if let Some(word) = words.next() {
-            values[i] = held(word.text)?;
+            *value = held(word.text)?;
         }
     }
     Some(Row { first, end, values })
@@ -113,9 +97,9 @@ fn take_row(words: &mut Words<'_>) -> Option<Row> {
 // The command of a line's first word, with the words behind it.
 fn take_command<'a>(words: &mut Words<'a>) -> Option<Command<'a>> {
     let command = match words.next()?.text {
-        b"use" => Command::Use(take_size(words)?),
-        b"work" => Command::Work(take_size(words)?),
-        b"output" => Command::Output(take_size(words)?),
+        b"use" => Command::Use(take_register(words)?),
+        b"work" => Command::Work(take_number(words)?),
+        b"output" => Command::Output(take_number(words)?),
         b"draft" => Command::Draft(words.next()?.text, take_letters(words)?),
         b"put" => Command::Put(words.next()?.text, take_letters(words)?, take_row(words)?),
         b"publish" => Command::Publish(words.next()?.text),
@@ -131,8 +115,6 @@ fn take_command<'a>(words: &mut Words<'a>) -> Option<Command<'a>> {
 pub fn read_command<'a>(line: &'a [u8]) -> Option<Command<'a>> {
     let mut words = Words::new(line);
     let command = take_command(&mut words)?;
-    match words.next() {
-        Some(_) => None,
-        None => Some(command),
-    }
+    take_end(&mut words)?;
+    Some(command)
 }

@@ -2,29 +2,31 @@
 ghost use Rattle.std.specs.Prelude.{◌<◌, IfSome, vec_len};
 ghost use Rattle.ledger.specs.Histories.{GoesOn};
 
-use crate::answers::Answer;
+use crate::answers::Failure;
 use register::registers::Register;
 use register::slips::Slip;
 
-// A slip, the name of its draft, and whether the second register gave it.
+// One of the two registers.
+#[derive(Clone, Copy, PartialEq, Eq, Debug)]
+pub enum Which {
+    First,
+    Second,
+}
+
+// A slip, the name of its draft, and the register that gave it.
 pub struct Paper<'a> {
     pub name: &'a [u8],
-    pub second: bool,
+    pub from: Which,
     pub slip: Slip,
 }
 
 // Where the slip of a name lies, one of the register in use if there is one.
-pub fn find(desk: &Vec<Paper<'_>>, name: &[u8], second: bool) -> Option<usize>
+pub fn find(desk: &Vec<Paper<'_>>, name: &[u8], in_use: Which) -> Option<usize>
     ensures { IfSome result (λ i. i < vec_len desk.now) }
 {
-    let mut found = None;
-    for i in 0..desk.len() {
-        let paper = &desk[i];
-        if paper.name == name && (found.is_none() || paper.second == second) {
-            found = Some(i);
-        }
-    }
-    found
+    desk.iter()
+        .position(|paper| paper.name == name && paper.from == in_use)
+        .or(desk.iter().position(|paper| paper.name == name))
 }
 
 // Lays a slip on the desk; where there is no memory for it, it is abandoned.
@@ -32,42 +34,19 @@ pub fn lay<'a>(
     register: &mut Register<'_>,
     desk: &mut Vec<Paper<'a>>,
     paper: Paper<'a>,
-    answer: Answer,
-) -> Answer
+) -> Result<(), Failure>
     ensures { GoesOn register.old.store register.new.store }
 {
     match desk.push(paper) {
-        Ok(()) => answer,
+        Ok(()) => Ok(()),
         Err(refused) => {
             let Paper {
                 name: _,
-                second: _,
+                from: _,
                 slip,
             } = refused.value;
             let _ = register.abandon(slip);
-            Answer::DeskFull
+            Err(Failure::DeskFull)
         }
     }
-}
-
-// Abandons every slip that is left, and answers how many.
-pub fn clear(first: &mut Register<'_>, second: &mut Register<'_>, mut desk: Vec<Paper<'_>>) -> usize
-    ensures first { GoesOn first.old.store first.new.store }
-    ensures second { GoesOn second.old.store second.new.store }
-{
-    let count = desk.len();
-    while let Some(paper) = desk.pop() {
-        let Paper {
-            name: _,
-            second: of_second,
-            slip,
-        } = paper;
-        let _ = if of_second {
-            second.abandon(slip)
-        } else {
-            first.abandon(slip)
-        };
-    }
-    desk.destroy_empty();
-    count
 }

@@ -1,12 +1,11 @@
 -- The law of plans, by induction on the plan.
-use Rattle.std.proofs.Common.{◌+◌, ◌*◌, ◌≤◌, not, leb, length}
+use Rattle.std.proofs.Common.{◌+◌, ◌*◌, not, leb, length}
 use Rattle.std.proofs.lemmas.Bool.{leb-true, and_parts}
 use Rattle.relation.specs.Bounds.{most_columns, most_places}
 use Rattle.relation.specs.Sets.{TupleSet, Same}
 use Rattle.relation.specs.Operations as ordinary
 use Rattle.source.specs.Meaning.{day_set}
-use Rattle.layers.specs.Alike.{same_kinds}
-use Rattle.layers.specs.Soundness.{passed, selected_sound, projected_sound, windowed_sound, united_sound}
+use Rattle.layers.specs.Soundness.{passed, pair_passed, selected_sound, projected_sound, windowed_sound, united_sound}
 use Rattle.layers.proofs.DaySets.{selects, projects, windows, unites}
 use Rattle.join.specs.Pairs.{fitting, repeated}
 use Rattle.join.specs.Joins.{joined_of, joinable}
@@ -48,9 +47,7 @@ law (join ps p r) h =
 law (except p r) h =
     let l = law p h.0 in
     let k = law r h.1 in
-    let kinds = passed (same_kinds (meant p).kinds (meant r).kinds) _ _ h.2 in
-    let few = passed (leb ((meant p).count * ((meant r).count + 1)) most_places) _ _ kinds.1 in
-    let within : (meant p).count * ((meant r).count + 1) ≤ most_places = leb-true _ _ few.0 in
+    let within = (pair_passed (meant p) (meant r) ((meant p).count * ((meant r).count + 1)) h.2).1 in
     record {
       sound = excepted_sound (meant p) (meant r) l.sound within;
       sets = λ d. over _ (ordinary.except (day_set (meant p) d) (day_set (meant r) d)) _ (day_sets_excepted (meant p) (meant r) l.sound k.sound within d) (except_same (day_set (meant p) d) (given p d) (day_set (meant r) d) (given r d) (l.sets d) (k.sets d));

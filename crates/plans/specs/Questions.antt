@@ -7,18 +7,10 @@ use Rattle.relation.specs.Sets.{TupleSet}
 use Rattle.source.specs.Meaning.{Meaning, day_set}
 use Rattle.tree.specs.declared.Node.{Node}
 use Rattle.collect.specs.Collects.{first_of, no_collect}
-use Rattle.layers.specs.declared.projects.Project.{Project}
-use Rattle.layers.specs.declared.windows.Window.{Window}
-use Rattle.layers.specs.Accepted.{Made}
-use Rattle.layers.specs.Columns.{chosen}
-use Rattle.layers.specs.Projects.{projected, no_project}
-use Rattle.layers.specs.Windows.{windowed, no_window}
-use Rattle.join.specs.declared.joins.Join.{Join}
-use Rattle.join.specs.Items.{items}
-use Rattle.join.specs.Pairs.{pairs_of}
-use Rattle.join.specs.Joins.{joined_of, no_join, Accepted as JoinAccepted}
-use Rattle.except.specs.declared.excepts.Except.{Except}
-use Rattle.except.specs.Excepts.{excepted, no_except, Accepted as ExceptAccepted}
+use Rattle.layers.specs.Projects.{no_project}
+use Rattle.layers.specs.Windows.{no_window}
+use Rattle.join.specs.Joins.{no_join}
+use Rattle.except.specs.Excepts.{no_except}
 use Rattle.tally.specs.Tallying.{no_tally}
 use Rattle.tallies.specs.declared.rules.Tally.{Tally}
 use Rattle.tallies.specs.declared.rules.Tally.TheVariants.{Sum}
@@ -75,31 +67,6 @@ no_uncovered hires covers values first end = first_of (no_valued hires covers va
 -- a plan that is made, and then collected
 abbrev pub collected : Option Reason → Plan → List Row → List Node → Option Reason
 collected q p rows index = first_of q (no_collect (meant p) rows index)
-
--- ---- the question as the layers that the code makes
-
-abbrev pub Asked : Type 0 → Type 0 → Type 0 → Type 0
-Asked H C V = Window (Join (Except (Project H) (Project C)) V)
-
-module _ {H C V : Type 0} (hires : H → Meaning) (covers : C → Meaning) (values : V → Meaning) where
-  abbrev pub bare_meaning : Except (Project H) (Project C) → Meaning
-  bare_meaning s = excepted (projected (hires s.left.source) (chosen s.left.columns)) (projected (covers s.right.source) (chosen s.right.columns))
-
-  -- what the layers mean, from the meanings of their sources
-  abbrev pub asked_meaning : Asked H C V → Meaning
-  asked_meaning p = windowed (joined_of (pairs_of (items p.source.pairs)) (bare_meaning p.source.left) (values p.source.right)) p.first p.end
-
-  -- the layers were made without refusal, over accepted sources
-  abbrev pub AskedAccepted : (H → Type 0) → (C → Type 0) → (V → Type 0) → Asked H C V → Type 0
-  AskedAccepted hires-ok covers-ok values-ok p =
-      let s = p.source in
-      let l = s.left in
-      Made
-      (JoinAccepted
-      (ExceptAccepted (Made (hires-ok l.left.source) (no_project (hires l.left.source) (chosen l.left.columns))) (Made (covers-ok l.right.source) (no_project (covers l.right.source) (chosen l.right.columns)))
-      (projected (hires l.left.source) (chosen l.left.columns)) (projected (covers l.right.source) (chosen l.right.columns)))
-      (values-ok s.right) (pairs_of (items s.pairs)) (items s.kept) (bare_meaning l) (values s.right))
-      (no_window p.first p.end)
 
 -- layers of the meaning m are the plan, and it is accepted
 pub record IsPlan (m : Meaning) (p : Plan) : Type 0 where

@@ -1,9 +1,9 @@
 // Which instruments were out on a day without cover, and at what value? Step by step, over any sources:
-// each step is a plan of layers that is collected into a work area.
+// each step is a plan of layers over the step before, and can be collected into a work area.
 ghost use Rattle.relation.specs.Refusals.{Answers};
 ghost use Rattle.collect.specs.Collects.{Collects};
 ghost use Rattle.tally.specs.Tallying.{Tallies};
-ghost use Rattle.plans.specs.Questions.{out, bare, valued, uncovered, out_plan, bare_plan, valued_plan, uncovered_plan, no_out, no_bare, no_valued, no_uncovered, collected, totalled, total_value, AskedAccepted, asked_meaning, IsPlan};
+ghost use Rattle.plans.specs.Questions.{out, bare, valued, uncovered, out_plan, bare_plan, valued_plan, uncovered_plan, no_out, no_bare, no_valued, no_uncovered, collected, totalled, total_value, IsPlan};
 
 use collect::collects::collect;
 use except::excepts::Except;
@@ -24,36 +24,76 @@ const INSTRUMENT: [usize; 1] = [1];
 const BY_INSTRUMENT: [Pair; 1] = [Pair { left: 1, right: 1 }];
 
 // The instruments that were out: the first column of the hires.
+fn ask_out<H: Source + Drop>(hires: H) -> Result<Project<H>, Refusal>
+    ensures { Answers result (no_out (H.Source.meaning hires)) (λ p. IsPlan (⟦<Project<H> as Source>⟧.meaning p) (out_plan (H.Source.meaning hires))) }
+{
+    Project::new(hires, &INSTRUMENT)
+}
+
+// Those that were out without cover.
+fn ask_bare<H: Source + Drop, C: Source + Drop>(
+    hires: H,
+    covers: C,
+) -> Result<Except<Project<H>, Project<C>>, Refusal>
+    ensures { Answers result (no_bare (H.Source.meaning hires) (C.Source.meaning covers)) (λ p. IsPlan (⟦<Except<Project<H>, Project<C>> as Source>⟧.meaning p) (bare_plan (H.Source.meaning hires) (C.Source.meaning covers))) }
+{
+    let instruments = ask_out(hires)?;
+    let covered = ask_out(covers)?;
+    Except::new(instruments, covered)
+}
+
+// The same with the value and the owner that the list of values has on the day.
+fn ask_valued<H: Source + Drop, C: Source + Drop, V: Source + Drop>(
+    hires: H,
+    covers: C,
+    values: V,
+) -> Result<Join<Except<Project<H>, Project<C>>, V>, Refusal>
+    ensures { Answers result (no_valued (H.Source.meaning hires) (C.Source.meaning covers) (V.Source.meaning values)) (λ p. IsPlan (⟦<Join<Except<Project<H>, Project<C>>, V> as Source>⟧.meaning p) (valued_plan (H.Source.meaning hires) (C.Source.meaning covers) (V.Source.meaning values))) }
+{
+    let left = ask_bare(hires, covers)?;
+    Join::new(left, values, &BY_INSTRUMENT)
+}
+
+// The same on the days from `first` up to, and without, `end`.
+fn ask_uncovered<H: Source + Drop, C: Source + Drop, V: Source + Drop>(
+    hires: H,
+    covers: C,
+    values: V,
+    first: u32,
+    end: u32,
+) -> Result<Window<Join<Except<Project<H>, Project<C>>, V>>, Refusal>
+    ensures { Answers result (no_uncovered (H.Source.meaning hires) (C.Source.meaning covers) (V.Source.meaning values) first end) (λ p. IsPlan (⟦<Window<Join<Except<Project<H>, Project<C>>, V>> as Source>⟧.meaning p) (uncovered_plan (H.Source.meaning hires) (C.Source.meaning covers) (V.Source.meaning values) first end)) }
+{
+    let joined = ask_valued(hires, covers, values)?;
+    Window::new(joined, first, end)
+}
+
+// Lists the instruments that were out.
 pub fn list_out<H: Source + Drop>(
     hires: H,
     rows: &mut [Row],
     index: &mut [Node],
 ) -> Result<usize, Refusal>
-    requires { H.Source.accepted hires }
     ensures { Collects (collected (no_out (H.Source.meaning hires)) (out_plan (H.Source.meaning hires)) rows.old index.old) (out (H.Source.meaning hires)) rows.old index.old result rows.new index.new }
 {
-    let instruments = Project::new(hires, &INSTRUMENT)?;
-    collect(&instruments, rows, index)
+    let asked = ask_out(hires)?;
+    collect(&asked, rows, index)
 }
 
-// Those that were out without cover.
+// Lists those that were out without cover.
 pub fn list_bare<H: Source + Drop, C: Source + Drop>(
     hires: H,
     covers: C,
     rows: &mut [Row],
     index: &mut [Node],
 ) -> Result<usize, Refusal>
-    requires hires { H.Source.accepted hires }
-    requires covers { C.Source.accepted covers }
     ensures { Collects (collected (no_bare (H.Source.meaning hires) (C.Source.meaning covers)) (bare_plan (H.Source.meaning hires) (C.Source.meaning covers)) rows.old index.old) (bare (H.Source.meaning hires) (C.Source.meaning covers)) rows.old index.old result rows.new index.new }
 {
-    let instruments = Project::new(hires, &INSTRUMENT)?;
-    let covered = Project::new(covers, &INSTRUMENT)?;
-    let left = Except::new(instruments, covered)?;
-    collect(&left, rows, index)
+    let asked = ask_bare(hires, covers)?;
+    collect(&asked, rows, index)
 }
 
-// The same with the value and the owner that the list of values has on the day.
+// Lists the same with the value and the owner that the list of values has on the day.
 pub fn list_valued<H: Source + Drop, C: Source + Drop, V: Source + Drop>(
     hires: H,
     covers: C,
@@ -61,40 +101,13 @@ pub fn list_valued<H: Source + Drop, C: Source + Drop, V: Source + Drop>(
     rows: &mut [Row],
     index: &mut [Node],
 ) -> Result<usize, Refusal>
-    requires hires { H.Source.accepted hires }
-    requires covers { C.Source.accepted covers }
-    requires values { V.Source.accepted values }
     ensures { Collects (collected (no_valued (H.Source.meaning hires) (C.Source.meaning covers) (V.Source.meaning values)) (valued_plan (H.Source.meaning hires) (C.Source.meaning covers) (V.Source.meaning values)) rows.old index.old) (valued (H.Source.meaning hires) (C.Source.meaning covers) (V.Source.meaning values)) rows.old index.old result rows.new index.new }
 {
-    let instruments = Project::new(hires, &INSTRUMENT)?;
-    let covered = Project::new(covers, &INSTRUMENT)?;
-    let left = Except::new(instruments, covered)?;
-    let joined = Join::new(left, values, &BY_INSTRUMENT)?;
-    collect(&joined, rows, index)
+    let asked = ask_valued(hires, covers, values)?;
+    collect(&asked, rows, index)
 }
 
-// The plan of the whole question: the instruments that were out without cover, with their values and owners, on the days from
-// `first` up to, and without, `end`.
-fn ask<H: Source + Drop, C: Source + Drop, V: Source + Drop>(
-    hires: H,
-    covers: C,
-    values: V,
-    first: u32,
-    end: u32,
-) -> Result<Window<Join<Except<Project<H>, Project<C>>, V>>, Refusal>
-    requires hires { H.Source.accepted hires }
-    requires covers { C.Source.accepted covers }
-    requires values { V.Source.accepted values }
-    ensures { Answers result (no_uncovered (H.Source.meaning hires) (C.Source.meaning covers) (V.Source.meaning values) first end) (λ p. AskedAccepted H.Source.meaning C.Source.meaning V.Source.meaning H.Source.accepted C.Source.accepted V.Source.accepted p × IsPlan (asked_meaning H.Source.meaning C.Source.meaning V.Source.meaning p) (uncovered_plan (H.Source.meaning hires) (C.Source.meaning covers) (V.Source.meaning values) first end)) }
-{
-    let instruments = Project::new(hires, &INSTRUMENT)?;
-    let covered = Project::new(covers, &INSTRUMENT)?;
-    let left = Except::new(instruments, covered)?;
-    let joined = Join::new(left, values, &BY_INSTRUMENT)?;
-    Window::new(joined, first, end)
-}
-
-// The same on the days from `first` up to, and without, `end`.
+// Lists the same on the days from `first` up to, and without, `end`.
 pub fn list_uncovered<H: Source + Drop, C: Source + Drop, V: Source + Drop>(
     hires: H,
     covers: C,
@@ -104,12 +117,9 @@ pub fn list_uncovered<H: Source + Drop, C: Source + Drop, V: Source + Drop>(
     rows: &mut [Row],
     index: &mut [Node],
 ) -> Result<usize, Refusal>
-    requires hires { H.Source.accepted hires }
-    requires covers { C.Source.accepted covers }
-    requires values { V.Source.accepted values }
     ensures { Collects (collected (no_uncovered (H.Source.meaning hires) (C.Source.meaning covers) (V.Source.meaning values) first end) (uncovered_plan (H.Source.meaning hires) (C.Source.meaning covers) (V.Source.meaning values) first end) rows.old index.old) (uncovered (H.Source.meaning hires) (C.Source.meaning covers) (V.Source.meaning values) first end) rows.old index.old result rows.new index.new }
 {
-    let asked = ask(hires, covers, values, first, end)?;
+    let asked = ask_uncovered(hires, covers, values, first, end)?;
     collect(&asked, rows, index)
 }
 
@@ -124,11 +134,8 @@ pub fn total_uncovered<H: Source + Drop, C: Source + Drop, V: Source + Drop>(
     rows: &mut [Row],
     index: &mut [Node],
 ) -> Result<usize, Refusal>
-    requires hires { H.Source.accepted hires }
-    requires covers { C.Source.accepted covers }
-    requires values { V.Source.accepted values }
     ensures { Tallies (totalled (no_uncovered (H.Source.meaning hires) (C.Source.meaning covers) (V.Source.meaning values) first end) (uncovered_plan (H.Source.meaning hires) (C.Source.meaning covers) (V.Source.meaning values) first end) by.now rows.old index.old) total_value by.now (uncovered (H.Source.meaning hires) (C.Source.meaning covers) (V.Source.meaning values) first end) rows.old index.old result rows.new index.new }
 {
-    let asked = ask(hires, covers, values, first, end)?;
+    let asked = ask_uncovered(hires, covers, values, first, end)?;
     tally(&asked, Tally::Sum(2), by, rows, index)
 }

@@ -30,7 +30,7 @@ use relation::rows::Row;
 use source::tables::fits_kinds;
 use tree::Node;
 
-// The register keeps the facts about a store, which fail here between the writes of the lent rows and of the directory.
+// The laws speak of any store, and its facts fail between the writes of the lent rows and of the directory: so the register keeps them.
 #[derive(Drop)]
 pub struct Store<'a> {
     pub(crate) rows: &'a mut [Row],

@@ -23,10 +23,7 @@ mod tests {
 
     // The number of the refusal, and 0 where there is none.
     fn refused(r: Result<usize, Refusal>) -> u32 {
-        match r {
-            Ok(_) => 0,
-            Err(refusal) => refusal.reason.number(),
-        }
+        r.err().map_or(0, |refusal| refusal.reason.number())
     }
 
     // Publishes a relation of numbers with these rows; the work area has room for as many as `room` says, four at the most.
@@ -114,10 +111,7 @@ mod tests {
         let mut output = [0; 50];
         let mut reg = Register::new(7, &mut lent);
         let mut other = Register::new(8, &mut others);
-        let Ok(slip) = reg.draft(b"a", &NUMBER) else {
-            assert!(rt; false);
-            return Ok(());
-        };
+        let slip = reg.draft(b"a", &NUMBER)?;
         let there = other.put(&slip, row(0, 5, 1), &NUMBER);
         let here = reg.put(&slip, row(0, 5, 1), &NUMBER);
         let misfit = reg.put(&slip, row(0, 5, 1), &[Kind::Word]);

@@ -79,16 +79,22 @@ mod tests {
     #[test]
     fn parts(rt: HostRuntime) {
         let n = match read_line(b"  load  hire  wn ") {
-            Some(Line::Load(name, kinds)) => name.len().wrapping_mul(10).wrapping_add(kinds.count),
+            Some(Line::Load(name, kinds)) => name
+                .len()
+                .wrapping_mul(10)
+                .wrapping_add(kinds.as_slice().len()),
             _ => 0,
         };
         assert_eq!(rt; n, 42);
         let z = match read_line(b"select s = a during -1 2 where c3 < 'a'") {
-            Some(Line::Query(_, Query::Select(Operand::During(_, from, until), condition))) =>
-                match condition.term {
-                    Term::Word(word) => word.wrapping_add(from).wrapping_add(until),
+            Some(Line::Query(_, Query::Select(Operand { during, .. }, condition))) => {
+                match (during, condition.term) {
+                    (Some((from, until)), Term::Word(word)) => {
+                        word.wrapping_add(from).wrapping_add(until)
+                    }
                     _ => 0,
-                },
+                }
+            }
             _ => 0,
         };
         assert_eq!(rt; z, 6989586621679009793);

@@ -10,13 +10,13 @@ use lists::show::ListText;
 use plans::questions::{list_bare, list_out, list_uncovered, list_valued};
 use relation::bounds::MOST_WORK;
 use relation::columns::Kinds;
+use relation::kinds::Kind;
 use relation::refusals::Refusal;
 use relation::rows::Row;
 use source::tables::Table;
-use std::alloc::{AllocError, Global};
 use std::{env, fs};
-use tree::Node;
 use words::lines::Lines;
+use workspace::Workspace;
 
 // A list as it was read: its kinds, and its rows coalesced.
 #[derive(Drop)]
@@ -30,62 +30,32 @@ fn load(rt: &HostRuntime, path: &str) -> anyhow::Result<List> {
     let heap = rt.alloc();
     let text = fs::read(rt, path)?;
     let mut lines = Lines::new(text.as_slice());
-    let header = match read_header(lines.next().unwrap_or(b"")) {
-        Ok(header) => header,
-        Err(reason) => return Err(Refusal::plain(reason).into()),
-    };
+    let header = read_header(lines.next().unwrap_or(b"")).map_err(Refusal::from)?;
     let kinds = header.kinds;
-    let typed = read_rows(rt, &mut lines, kinds)?;
-    let mut rows = vec![in heap; Row::blank(); typed.len()]?;
-    let mut index = vec![in heap; Node::blank(); typed.len()]?;
-    let count = collect_rows(
-        typed.as_slice(),
-        kinds,
-        rows.as_mut_slice(),
-        index.as_mut_slice(),
-    )?;
+    let typed = read_rows(rt, &mut lines, kinds.as_slice())?;
+    let mut work = Workspace::new(heap, typed.len())?;
+    let (rows, index) = work.lend();
+    let count = collect_rows(typed.as_slice(), kinds.as_slice(), rows, index)?;
     println!(rt; "{path}: {} rows, coalesced to {count}", typed.len())?;
-    rows.truncate(count);
+    let rows = work.list(count).to_vec(heap)?;
     Ok(List { kinds, rows })
 }
 
-// The areas that a step works in.
-#[derive(Drop)]
-struct Work {
-    rows: Vec<Row>,
-    index: Vec<Node>,
-}
-
-impl Work {
-    fn new(heap: Global) -> Result<Work, AllocError> {
-        Ok(Work {
-            rows: vec![in heap; Row::blank(); MOST_WORK]?,
-            index: vec![in heap; Node::blank(); MOST_WORK]?,
-        })
-    }
-
-    // Prints the list that a step left.
-    fn show<'a>(
-        &'a self,
-        rt: &HostRuntime,
-        name: &'a str,
-        kinds: Kinds,
-        count: usize,
-    ) -> anyhow::Result<()> {
-        let list = ListText {
-            name: name.as_bytes(),
-            kinds,
-            rows: self.rows.as_slice(),
-            count,
-        };
-        print!(rt; "{list}")?;
-        Ok(())
+impl List {
+    fn open(&self) -> Result<Table<'_>, Refusal> {
+        Table::open(self.rows.as_slice(), self.kinds.as_slice())
     }
 }
 
-// The kinds of the valued list: the instrument, then what the list of values has beside it.
-fn first_kinds(kinds: Kinds, count: usize) -> Kinds {
-    Kinds { count, ..kinds }
+// Prints the list that a step left.
+fn show(rt: &HostRuntime, name: &str, kinds: &[Kind], rows: &[Row]) -> anyhow::Result<()> {
+    let list = ListText {
+        name: name.as_bytes(),
+        kinds,
+        rows,
+    };
+    print!(rt; "{list}")?;
+    Ok(())
 }
 
 // Answers the question step by step, and prints each step's list.
@@ -97,42 +67,29 @@ fn answer(
     first: u32,
     end: u32,
 ) -> anyhow::Result<()> {
-    let out = Table::open(hires.rows.as_slice(), hires.kinds)?;
-    let covered = Table::open(covers.rows.as_slice(), covers.kinds)?;
-    let valued = Table::open(values.rows.as_slice(), values.kinds)?;
-    let instrument = first_kinds(values.kinds, 1);
-    let mut work = Work::new(rt.alloc())?;
+    let out = hires.open()?;
+    let covered = covers.open()?;
+    let valued = values.open()?;
+    // The instrument, and what the list of values has beside it.
+    let both = values.kinds.as_slice();
+    let instrument = both.get(..1).unwrap_or(both);
+    let mut work = Workspace::new(rt.alloc(), MOST_WORK)?;
     println!(rt; "instruments that were out:")?;
-    let count = list_out(out, work.rows.as_mut_slice(), work.index.as_mut_slice())?;
-    work.show(rt, "out", instrument, count)?;
+    let (rows, index) = work.lend();
+    let count = list_out(out, rows, index)?;
+    show(rt, "out", instrument, work.list(count))?;
     println!(rt; "of these, without cover:")?;
-    let count = list_bare(
-        out,
-        covered,
-        work.rows.as_mut_slice(),
-        work.index.as_mut_slice(),
-    )?;
-    work.show(rt, "bare", instrument, count)?;
+    let (rows, index) = work.lend();
+    let count = list_bare(out, covered, rows, index)?;
+    show(rt, "bare", instrument, work.list(count))?;
     println!(rt; "with their values:")?;
-    let count = list_valued(
-        out,
-        covered,
-        valued,
-        work.rows.as_mut_slice(),
-        work.index.as_mut_slice(),
-    )?;
-    work.show(rt, "valued", values.kinds, count)?;
+    let (rows, index) = work.lend();
+    let count = list_valued(out, covered, valued, rows, index)?;
+    show(rt, "valued", both, work.list(count))?;
     println!(rt; "from day {first} up to day {end}:")?;
-    let count = list_uncovered(
-        out,
-        covered,
-        valued,
-        first,
-        end,
-        work.rows.as_mut_slice(),
-        work.index.as_mut_slice(),
-    )?;
-    work.show(rt, "asked", values.kinds, count)
+    let (rows, index) = work.lend();
+    let count = list_uncovered(out, covered, valued, first, end, rows, index)?;
+    show(rt, "asked", both, work.list(count))
 }
 
 fn run(rt: &HostRuntime) -> anyhow::Result<()> {

@@ -121,3 +121,16 @@ first_line w (b ∷ bs) h = at (eqb b 10) refl (first_line (w ++ b ∷ []) bs (l
     at false e on =
         let one : suc n ≡ 1 + n = omega arith in
         subst (EndsLine w (b ∷ bs)) one (cond-false (eqb b 10) _ _ e ∙ on ∙ ap (λ l. l ∷ lines (drop 1 (drop n bs))) (append_assoc w (b ∷ []) (take n bs)))
+
+-- no more lines than bytes
+few_from : (w bs : List ℕ) → length (lines_from w bs) ≤ length w + length bs
+few_from [] [] = omega arith
+few_from (c ∷ w) [] = omega arith
+few_from w (b ∷ bs) = at (eqb b 10) refl (few_from [] bs) (let m = few_from (w ++ b ∷ []) bs in let l = length_push w b in omega arith)
+  where
+    at : (t : Bool) → eqb b 10 ≡ t → length (lines_from [] bs) ≤ 0 + length bs → length (lines_from (w ++ b ∷ []) bs) ≤ length w + (1 + length bs) → length (lines_from w (b ∷ bs)) ≤ length w + length (b ∷ bs)
+    at true e m n = let q = ap length (cond-true (eqb b 10) (w ∷ lines_from [] bs) (lines_from (w ++ b ∷ []) bs) e) in omega arith
+    at false e m n = let q = ap length (cond-false (eqb b 10) (w ∷ lines_from [] bs) (lines_from (w ++ b ∷ []) bs) e) in omega arith
+
+pub few_lines : (bs : List ℕ) → length (lines bs) ≤ length bs
+few_lines bs = let m = few_from [] bs in omega arith

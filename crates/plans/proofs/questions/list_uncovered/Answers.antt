@@ -16,4 +16,4 @@ returns g c =
     let q = no_uncovered (g.H.Source.meaning c.args.hires) (g.C.Source.meaning c.args.covers) (g.V.Source.meaning c.args.values) c.args.first c.args.end in
     let p = uncovered_plan (g.H.Source.meaning c.args.hires) (g.C.Source.meaning c.args.covers) (g.V.Source.meaning c.args.values) c.args.first c.args.end in
     let a = c.in_ok-asked.ensures in
-    answered q p _ (record { allowed = a.0; plan = a.1.1 }) c.args.rows.now c.args.index.now c.collect.result c.collect.new.rows c.collect.new.index c.collect.ensures
+    answered q p _ (record { allowed = a.0; plan = a.1 }) c.args.rows.now c.args.index.now c.collect.result c.collect.new.rows c.collect.new.index c.collect.ensures

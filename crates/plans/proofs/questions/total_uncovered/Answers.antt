@@ -16,4 +16,4 @@ returns g c =
     let q = no_uncovered (g.H.Source.meaning c.args.hires) (g.C.Source.meaning c.args.covers) (g.V.Source.meaning c.args.values) c.args.first c.args.end in
     let p = uncovered_plan (g.H.Source.meaning c.args.hires) (g.C.Source.meaning c.args.covers) (g.V.Source.meaning c.args.values) c.args.first c.args.end in
     let a = c.in_ok-asked.ensures in
-    totals_answered q p _ (record { allowed = a.0; plan = a.1.1 }) total_value c.args.by.now c.args.rows.now c.args.index.now c.tally.result c.tally.new.rows c.tally.new.index c.tally.ensures
+    totals_answered q p _ (record { allowed = a.0; plan = a.1 }) total_value c.args.by.now c.args.rows.now c.args.index.now c.tally.result c.tally.new.rows c.tally.new.index c.tally.ensures

@@ -1,20 +1,13 @@
-use Rattle.std.proofs.Common.{◌≡◌, ℕ, true, false, get_or, is_some, None, sym, refl, ap, subst, rules}
+use Rattle.std.proofs.Common.{◌≡◌, ℕ, true, false, is_some, None, sym, refl, ap, subst}
 use Rattle.std.proofs.lemmas.Option.{MatchOption-at_some, MatchOption-at_none}
 use Rattle.relation.specs.declared.refusals.Reason.TheVariants as no
 use Rattle.relation.specs.Refusals.{plain?}
-use Rattle.register.specs.Layout.{free}
 use Rattle.register.specs.State.{held, size_of, Leaves, Removed}
 use Rattle.register.specs.History.{abandoned}
-use Rattle.register.proofs.Changes.{draft_bears}
 use Rattle.register.proofs.Days.{kept}
 use Rattle.register.proofs.Fits.{slip_ok, slip_no}
 use Rattle.register.proofs.Refused.{refused_by}
 use Rattle.register.proofs.registers.Register.abandon.Goals as goal
-
-pub clear-requires : goal.clear-requires
-clear-requires c =
-    let f = MatchOption-at_some _ _ c.in_ok-i.i c.in_ok-i.ensures.ok_part c.draft_of-place.ensures in
-    record { whole = search rules; within = f.1; stands = draft_bears (get_or c.args.self.now.store.directory.entries c.in_ok-i.i free) f.2 }
 
 pub returns : goal.returns
 returns c =

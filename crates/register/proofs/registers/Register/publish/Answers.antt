@@ -1,4 +1,4 @@
-use Rattle.std.proofs.Common.{ℕ, true, false, is_some, Some, Ok, Err, sym, refl, ap, ◌∙◌, subst, rules}
+use Rattle.std.proofs.Common.{ℕ, true, false, is_some, Some, Ok, Err, sym, refl, ap, ◌∙◌, subst}
 use Rattle.relation.specs.Refusals.{plain, plain?}
 use Rattle.register.specs.State.{held, size_of, Issued}
 use Rattle.register.specs.Refusals.{work_no, handed_back}
@@ -7,9 +7,6 @@ use Rattle.register.proofs.Days.{kept}
 use Rattle.register.proofs.Kept.{exact_by}
 use Rattle.register.proofs.Fits.{publish_slip, publish_work, handed_err, handed_ok}
 use Rattle.register.proofs.registers.Register.publish.Goals as goal
-
-pub publish-requires : goal.publish-requires
-publish-requires c = let f = c.in-Some.ensures in record { whole = search rules; within = f.1; draft = f.2 }
 
 pub returns-in_default : goal.returns-in_default
 returns-in_default c =

@@ -1,16 +1,5 @@
-use Rattle.std.proofs.Common.{arith}
-use Rattle.register.specs.Layout.{free}
-use Rattle.register.proofs.Storage.{total_split}
 use Rattle.register.proofs.Others.{clear_result}
 use Rattle.register.proofs.store.Store.clear.Goals as goal
-
-pub start-at-requires : goal.start-at-requires
-start-at-requires c = record { within = omega (arith, c.requires.whole.all); fits = omega arith }
-
-pub close-requires : goal.close-requires
-close-requires c =
-    let w = total_split c.args.self.now.directory.entries c.args.i free (omega (arith, c.requires.whole.all)) in
-    record { low = omega arith; high = omega arith }
 
 pub returns : goal.returns
 returns c =

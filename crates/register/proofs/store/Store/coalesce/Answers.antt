@@ -10,9 +10,6 @@ use Rattle.register.proofs.Changes.{old, good_at}
 use Rattle.register.proofs.Publishing.{part_in}
 use Rattle.register.proofs.store.Store.coalesce.Goals as goal
 
-pub start-at-requires : goal.start-at-requires
-start-at-requires c = record { within = omega (arith, c.requires.whole.all); fits = omega (arith, c.requires.whole.room) }
-
 pub coalesce_part-requires : goal.coalesce_part-requires
 coalesce_part-requires c =
     let s = c.args.self.now in

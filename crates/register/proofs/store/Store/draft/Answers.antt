@@ -54,9 +54,6 @@ returns-in_err-i c =
     rw (refused_by c.spare.result no.NoEntry _ c.from_residual-in_err-i.result c.in_err-i.ensures.ok_part c.in_err-i.ensures.value c.from_residual-in_err-i.ensures.1)
     (record { whole = c.requires; refused = sym (ap plain? (no_at s c.args.name.now c.args.kinds.now true false true false n.0 (ap (λ x. is_there (held s x)) (sym n.1) ∙ (sym c.has.ensures.is ∙ c.if-has.false)) k.0 full)); after = refl })
 
-pub begin-requires : goal.begin-requires
-begin-requires c = let g = spare_at c.args.self.now.directory.entries c.in_ok-i.i (sym c.spare.ensures ∙ c.in_ok-i.ensures.ok_part) in omega (arith, g.0, c.requires.all)
-
 pub returns : goal.returns
 returns c =
     let s = c.args.self.now in

@@ -1,9 +1,5 @@
-use Rattle.std.proofs.Common.{arith}
 use Rattle.register.proofs.Fits.{place_none, place_some}
 use Rattle.register.proofs.store.Store.place.Goals as goal
-
-pub at-requires : goal.at-requires
-at-requires c = let f = c.in_ok-i.ensures in omega (arith, f.0, c.requires.all)
 
 pub returns-in_err-i : goal.returns-in_err-i
 returns-in_err-i c = rw c.from_residual.ensures (place_none c.args.self.now c.args.name.code c.args.mark c.in_err-i.ensures)

@@ -11,11 +11,7 @@ use Rattle.register.specs.State.{held, used, rows_of, Leaves, added, size_of}
 use Rattle.register.specs.Refusals.{row_no, slip_fits, or_else}
 use Rattle.register.proofs.Fits.{put_no_lem, fits_draft}
 use Rattle.register.proofs.Refused.{refused_by}
-use Rattle.register.proofs.Tested.{row_good}
 use Rattle.register.proofs.store.Store.put.Goals as goal
-
-pub at-entry-requires : goal.at-entry-requires
-at-entry-requires c = (MatchOption-at_some _ _ c.in_ok-i.i c.in_ok-i.ensures.ok_part c.draft_of.ensures).1
 
 pub returns-in_err-i : goal.returns-in_err-i
 returns-in_err-i c =
@@ -45,20 +41,6 @@ returns-then-sum-capacity c =
       whole = c.requires;
       refused = ap Some c.into.ensures ∙ sym (ap plain? (q ∙ (ap (λ x. or_else x room) good ∙ cond-true (not (ltb (used s) (rows_of s))) (Some no.NoRow) None (not_from_false _ (le-ltb (used s) (rows_of s) (omega arith))))));
       after = refl;
-    }
-
-pub add-requires : goal.add-requires
-add-requires c =
-    let s = c.args.self.now in
-    let f = MatchOption-at_some _ _ c.in_ok-i.i c.in_ok-i.ensures.ok_part c.draft_of.ensures in
-    let ks : c.as_slice.result.now ≡ items (get_or s.directory.entries c.in_ok-i.i free).kinds = c.as_slice.ensures.items ∙ ap (λ x. items x.kinds) c.at-entry.ensures in
-    let good = ap (λ x. row_no x c.args.kinds.now c.args.row) (sym ks) ∙ sym c.in_ok-check_row.ensures in
-    record {
-      whole = c.requires;
-      within = f.1;
-      draft = f.2;
-      room = omega arith;
-      good = row_good (items (get_or s.directory.entries c.in_ok-i.i free).kinds) c.args.kinds.now c.args.row good;
     }
 
 pub returns : goal.returns

@@ -1,4 +1,4 @@
-use Rattle.std.proofs.Common.{◌≡◌, ◌+◌, ◌-◌, map, length, get_or, take, drop, sym, refl, ap, ◌∙◌, arith}
+use Rattle.std.proofs.Common.{◌≡◌, ◌+◌, ◌-◌, map, length, get_or, take, drop, sym, refl, ap, ◌∙◌}
 use Rattle.std.proofs.lemmas.Option.{MatchOption-at_some, MatchOption-at_none}
 use Rattle.relation.specs.declared.refusals.Reason.TheVariants as no
 use Rattle.relation.specs.Few.{items}
@@ -7,32 +7,8 @@ use Rattle.relation.specs.Stored.{meant}
 use Rattle.listing.specs.Text.{list_text}
 use Rattle.register.specs.Layout.{free}
 use Rattle.register.proofs.Refused.{refused_by}
-use Rattle.register.proofs.Showing.{place_in, text_at, show_result, show_none}
+use Rattle.register.proofs.Showing.{text_at, show_result, show_none}
 use Rattle.register.proofs.store.Store.show.Goals as goal
-
-pub start-at-requires : goal.start-at-requires
-start-at-requires c = let f = MatchOption-at_some _ _ c.in_ok-i.i c.in_ok-i.ensures.ok_part c.published_at.ensures in record { within = omega (arith, c.requires.all, f.1); fits = omega (arith, c.requires.room) }
-
-pub at-entry-requires : goal.at-entry-requires
-at-entry-requires c = (MatchOption-at_some _ _ c.in_ok-i.i c.in_ok-i.ensures.ok_part c.published_at.ensures).1
-
-pub overflow_add-rows : goal.overflow_add-rows
-overflow_add-rows c =
-    let f = MatchOption-at_some _ _ c.in_ok-i.i c.in_ok-i.ensures.ok_part c.published_at.ensures in
-    let p = place_in c.args.self.now.directory.entries c.args.self.now.rows.now c.in_ok-i.i c.start-at.result c.requires f.1 c.start-at.ensures in
-    omega (arith, p.1, ap (λ x. x.count) c.at-entry.ensures)
-
-pub offset_bounds-self-at : goal.offset_bounds-self-at
-offset_bounds-self-at c =
-    let f = MatchOption-at_some _ _ c.in_ok-i.i c.in_ok-i.ensures.ok_part c.published_at.ensures in
-    let p = place_in c.args.self.now.directory.entries c.args.self.now.rows.now c.in_ok-i.i c.start-at.result c.requires f.1 c.start-at.ensures in
-    omega (arith, p.1)
-
-pub slice_bounds-rows-end : goal.slice_bounds-rows-end
-slice_bounds-rows-end c =
-    let f = MatchOption-at_some _ _ c.in_ok-i.i c.in_ok-i.ensures.ok_part c.published_at.ensures in
-    let p = place_in c.args.self.now.directory.entries c.args.self.now.rows.now c.in_ok-i.i c.start-at.result c.requires f.1 c.start-at.ensures in
-    omega (arith, p.0, ap (λ x. x.count) c.at-entry.ensures)
 
 pub returns-in_err-i : goal.returns-in_err-i
 returns-in_err-i c =
