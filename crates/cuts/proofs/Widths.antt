@@ -9,9 +9,10 @@ use Rattle.relation.specs.Operations.{picked}
 use Rattle.relation.specs.Sets.{Tuple, column}
 use Rattle.relation.specs.Stored.{firsts}
 use Rattle.relation.proofs.Firsts.{length_firsts}
-use Rattle.cuts.specs.Amounts.{value}
+use Rattle.collect.specs.Areas.{no_row}
+use Rattle.cuts.specs.Amounts.{value, held, amount}
 use Rattle.cuts.specs.Stretches.{stretch_by}
-use Rattle.cuts.specs.Widths.{stretch, first_columns, TuplesFirst, StretchesFirst}
+use Rattle.cuts.specs.Widths.{stretch, first_columns, TuplesFirst, StretchesFirst, RowsFirst}
 
 first_at : {X : Type 0} (n i : ℕ) (xs : List X) (d : X) → i < n → get_or (firsts n xs d) i d ≡ get_or xs i d
 first_at zero i xs d lt = absurd (omega arith)
@@ -41,3 +42,6 @@ stretches_first group width [] = refl
 stretches_first group width (c ∷ []) = refl
 stretches_first group width (c ∷ next ∷ cs) = λ i.
     cond (lt_z (pos 0) (value 0 c) && ltb c.first next.first) (stretch_first group width c next i ∷ stretches_first group width (next ∷ cs) i) (stretches_first group width (next ∷ cs) i)
+
+pub rows_first : RowsFirst
+rows_first m width group d w g = record { some = g.some; values = g.values ∙ tuples_first (get_or group 0 no_row) width (amount m (held group d)) }

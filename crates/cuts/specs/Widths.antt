@@ -1,11 +1,13 @@
 -- A group by its first few values is one by the columns from 1 on.
-use Rattle.std.specs.Prelude.{◌≡◌, ℕ, cond, ◌&&◌, List, [], ◌∷◌, ◌++◌, ℤ, pos, int_lt, nat_lt}
+use Rattle.std.specs.Prelude.{◌≡◌, ℕ, cond, ◌&&◌, List, [], ◌∷◌, ◌++◌, ℤ, pos, slice_index_or, int_lt, nat_lt}
 use Rattle.std.specs.List.{range_with_len}
 use Rattle.relation.specs.declared.rows.Row.{Row}
 use Rattle.relation.specs.Bounds.{most_columns}
 use Rattle.relation.specs.Stored.{firsts}
-use Rattle.cuts.specs.Amounts.{value}
-use Rattle.cuts.specs.Groups.{tuple_by}
+use Rattle.collect.specs.Areas.{no_row}
+use Rattle.tallies.specs.declared.rules.Tally.{Tally}
+use Rattle.cuts.specs.Amounts.{value, held, amount}
+use Rattle.cuts.specs.Groups.{tuple_by, HeldIn, Gives}
 use Rattle.cuts.specs.Stretches.{stretches_by}
 
 -- the first few values of the group's row, then the amount
@@ -33,3 +35,12 @@ TuplesFirst = (group : Row) (width : ℕ) (amount : ℤ) → tuple_by group (fir
 -- so the stretches are the same
 abbrev pub StretchesFirst : Type 0
 StretchesFirst = (group : Row) (width : ℕ) (cs : List Row) → stretches_by group (first_columns width) cs ≡ stretches_of group width cs
+
+-- what a tallied row says of a day where the group's values are the first few
+pub record GivesFirst (m : Tally) (width : ℕ) (group : List Row) (d : ℕ) (w : Row) : Type 0 where
+  pub some : HeldIn group d
+  pub values : w.values ≡ tuple_of (slice_index_or group 0 no_row) width (amount m (held group d))
+
+-- so a group tallied by these columns is tallied by its first few values
+abbrev pub RowsFirst : Type 0
+RowsFirst = (m : Tally) (width : ℕ) (group : List Row) (d : ℕ) (w : Row) → Gives m (first_columns width) group d w → GivesFirst m width group d w
