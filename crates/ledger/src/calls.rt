@@ -102,6 +102,7 @@ impl<'a> Bench<'a> {
     {
         let i = find(&self.desk, name, self.in_use).ok_or(Failure::NoSlip)?;
         let Paper { name, from, slip } = self.desk.remove(i);
+        // A slip that is handed back must be laid down again.
         match self.areas.publish(register, slip) {
             Ok(count) => Ok(Answer::Rows(count)),
             Err((refusal, slip)) => {

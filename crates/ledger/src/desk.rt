@@ -37,6 +37,7 @@ pub fn lay<'a>(
 ) -> Result<(), Failure>
     ensures { GoesOn register.old.store register.new.store }
 {
+    // A slip must be spent, so what the push gives back is taken apart.
     match desk.push(paper) {
         Ok(()) => Ok(()),
         Err(refused) => {

@@ -66,6 +66,7 @@ impl<'r, 'a> Workshop<'r, 'a> {
         ensures empty { vec_len self.new.bench.desk ≡ 0 }
     {
         let count = self.bench.desk.len();
+        // Each slip must be spent, so the papers are taken off the desk one by one.
         while let Some(paper) = self.bench.desk.pop() {
             let Paper {
                 name: _,

@@ -38,7 +38,7 @@ pub fn coalesce_part(
     collect(&table, work, index)
 }
 
-// Blanks the part of a work area that counts.
+// Blanks the part of a work area that counts. One call for any area would have to ask that the entry's clone cannot fail.
 pub fn blank_work(work: &mut [Row], index: &mut [Node])
     ensures work { work.new ≡ blanked blank_row work.old }
     ensures index { index.new ≡ blanked blank_node index.old }
