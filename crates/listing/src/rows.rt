@@ -44,6 +44,7 @@ pub(crate) fn put_value<S: Sink>(sink: &mut S, kind: Kind, value: i64)
 fn put_values<S: Sink>(sink: &mut S, kinds: &[Kind], row: &Row)
     ensures { S.takes sink.old (values_text kinds.now (meant (length kinds.now) row.now).tuple) sink.new }
 {
+    // Not a zip, which would end at the sixth value: a kind past it has 0.
     for (column, kind) in kinds.iter().enumerate() {
         sink.put(b" ");
         put_value(sink, *kind, value_at(row, column));
