@@ -1,6 +1,6 @@
 -- A part of the rows as a table, and its canonical list.
-use Rattle.std.proofs.Common.{◌≡◌, ℕ, zero, suc, ◌+◌, ◌-◌, ◌<◌, ◌≤◌, min, Bool, true, false, ◌&&◌, ltb, leb, List, [], ◌∷◌, ◌++◌, map, length, get_or, take, drop, Result, Ordering, Less, Equal, Greater, sym, refl, ap, ◌∙◌, subst, ap₂, inl, inr, arith}
-use Rattle.std.proofs.lemmas.List.{length-map, length-take, length-drop, get_or-map, get_or-take, get_or-drop, map_more, append-nil, take_at, take-take, length-append}
+use Rattle.std.proofs.Common.{◌≡◌, ℕ, zero, suc, ◌+◌, ◌-◌, ◌<◌, ◌≤◌, min, Bool, true, false, ◌&&◌, ltb, leb, List, [], ◌∷◌, ◌++◌, map, length, get_or, take, drop, None, Result, Ordering, Less, Equal, Greater, sym, refl, ap, ◌∙◌, subst, ap₂, inl, inr, arith}
+use Rattle.std.proofs.lemmas.List.{length-take, length-drop, get_or-drop, map_more, append-nil, take_at, take-take, length-append}
 use Rattle.std.proofs.lemmas.Bool.{cases_lt, and_parts, and_from, lt-ltb, le-leb, ltb-true, leb-true, both_ways, or_left, or_right, or_cases}
 use Rattle.std.specs.List.{list_all, AllByRecursion as AllOf}
 use Rattle.std.specs.Cmp.Lexicographic.{slice_cmp}
@@ -9,7 +9,7 @@ use Rattle.std.proofs.ByRecursion.{All-get_or, All-from_get_or}
 use Rattle.relation.specs.declared.rows.Row.{Row}
 use Rattle.relation.specs.declared.kinds.Kind.{Kind}
 use Rattle.relation.specs.declared.refusals.Refusal.{Refusal}
-use Rattle.relation.specs.Bounds.{most_columns, most_stored}
+use Rattle.relation.specs.Bounds.{most_columns, most_places, most_stored}
 use Rattle.relation.specs.Rows.{SpecRow, Ahead, Listed, Day, Period, Holds, is_period, Lists, on}
 use Rattle.relation.specs.Stored.{meant, stored}
 use Rattle.relation.proofs.Every.{every_at}
@@ -18,10 +18,10 @@ use Rattle.relation.specs.Sets.{equal}
 use Rattle.relation.proofs.TupleSets.{equal_decides}
 use Rattle.relation.proofs.Held.{In, day_set}
 use Rattle.source.specs.Meaning.{Meaning, fits, rows_below, rows_of, filled?}
-use Rattle.source.specs.Tables.{table, no_row, TableOk}
+use Rattle.source.specs.Tables.{table, no_row, all_periods, all_fit, no_part}
+use Rattle.std.proofs.lemmas.List.Folds.{list_all-map}
 use Rattle.source.proofs.Cells.{fits_length}
-use Rattle.source.proofs.Risen.{rising_listed}
-use Rattle.source.proofs.TableRows.{row_in, row_out, table_sound}
+use Rattle.source.proofs.TableRows.{row_in, row_out}
 use Rattle.collect.specs.Collects.{Collects}
 use Rattle.collect.proofs.Gathered.{meant_stored}
 use Rattle.collect.proofs.Indexed.{no_spec, any_to_index, any_from_index}
@@ -64,6 +64,15 @@ listed_from (r ∷ rows) h = let p = and_parts (list_all (is_ahead r) rows) (is_
 
 -- ---- the rows of a table
 
+-- rows that are good have periods, and values within the bounds of their kinds
+all_good : (ks : List Kind) (xs : List Row) → list_all (λ w. good_row ks (meant (length ks) w)) xs ≡ true → (all_periods xs ≡ true) × (all_fit ks xs ≡ true)
+all_good ks [] h = (refl, refl)
+all_good ks (w ∷ xs) h =
+    let here = and_parts (good_row ks (meant (length ks) w)) _ h in
+    let both = and_parts (is_period w.first w.end) (fits ks (meant (length ks) w).tuple) here.0 in
+    let rest = all_good ks xs here.1 in
+    (and_from (is_period w.first w.end) _ both.0 rest.0, and_from (fits ks (meant (length ks) w).tuple) _ both.1 rest.1)
+
 module _ (rows : List Row) (start len : ℕ) (ks : List Kind) (within : start + len ≤ length rows) where
   abbrev upto : ℕ → List SpecRow
   upto k = map (meant (length ks)) (take (min k (start + len) - start) (drop start rows))
@@ -97,25 +106,13 @@ module _ (rows : List Row) (start len : ℕ) (ks : List Kind) (within : start + 
   table_rows = below (length rows) (omega arith) ∙ ap (λ j. map (meant (length ks)) (take j (drop start rows))) (omega arith)
 
   -- rows that are good make an accepted table, known to be listed where they are
-  pub table_good : (ordered : Bool) → length rows ≤ most_stored → is_few ks ≡ true → list_all (good_row ks) (part_of ks start len rows) ≡ true →
-      (ordered ≡ true → is_listed (part_of ks start len rows) ≡ true) → TableOk rows start len ks ordered
-  table_good ordered few_rows few good order =
-      let c = and_parts (leb 1 (length ks)) (leb (length ks) most_columns) few in
-      let low = leb-true 1 (length ks) c.0 in
-      let high = leb-true (length ks) most_columns c.1 in
-      record {
-        sound = table_sound rows start len ks (omega arith) (omega arith) (omega arith) (λ i lt le.
-            let j = i - start in
-            let l : j < length (take len (drop start rows)) = simp (length-take, length-drop) (omega arith) in
-            let l' : j < length (part_of ks start len rows) = simp length-map l in
-            let at : get_or (part_of ks start len rows) j no_spec ≡ meant (length ks) (get_or rows i no_row) =
-            get_or-map (meant (length ks)) (take len (drop start rows)) j no_row no_spec l ∙ ap (meant (length ks)) (get_or-take len (drop start rows) j no_row (omega arith) ∙ get_or-drop start rows j no_row ∙ ap (λ x. get_or rows x no_row) (omega arith)) in
-            let g : good_row ks (meant (length ks) (get_or rows i no_row)) ≡ true = sym (ap (good_row ks) at) ∙ every_at (good_row ks) (part_of ks start len rows) no_spec j good l' in
-            let q = and_parts (is_period (get_or rows i no_row).first (get_or rows i no_row).end) (fits ks (meant (length ks) (get_or rows i no_row)).tuple) g in
-            let p = and_parts _ _ q.0 in
-            record { fitting = q.1; period = (ltb-true _ _ p.0, leb-true _ _ p.1) });
-        order = λ e. rising_listed rows start len ks (listed_from (part_of ks start len rows) (order e));
-      }
+  -- good rows are a table
+  pub part_allowed : length rows ≤ most_stored → is_few ks ≡ true → list_all (good_row ks) (part_of ks start len rows) ≡ true → no_part rows start len ks ≡ None
+  part_allowed few_rows few good =
+      let xs = take len (drop start rows) in
+      let b = all_good ks xs (sym (list_all-map (good_row ks) (meant (length ks)) xs) ∙ good) in
+      let places : leb (length rows) most_places ≡ true = le-leb (length rows) most_places (omega arith) in
+      rw (few, b.0, b.1, places)
 
 -- what collecting a source leaves, by its rows
 pub collected_as : (m : Meaning) (xs : List SpecRow) (work : List Row) (index : List Node) (r : Result ℕ Refusal) (work' : List Row) (index' : List Node) → rows_of m ≡ xs →

@@ -34,7 +34,7 @@ pub fn coalesce_part(
     requires good { list_all (good_row kinds.now) (part_of kinds.now start len rows.now) ≡ true }
     ensures { Collects (work_no (length (part_of kinds.now start len rows.now)) work.old index.old) (day_sets (part_of kinds.now start len rows.now)) work.old index.old result work.new index.new }
 {
-    let table = Table::new(rows, start, len, kinds, false);
+    let table = Table::part(rows, start, len, kinds)?;
     collect(&table, work, index)
 }
 

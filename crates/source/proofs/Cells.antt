@@ -6,7 +6,6 @@ use Rattle.std.proofs.lemmas.Bool.{cases_lt, and_parts}
 use Rattle.relation.specs.declared.kinds.Kind.{Kind}
 use Rattle.relation.specs.Stored.{firsts, stored}
 use Rattle.relation.specs.Values.{in_kind}
-use Rattle.relation.specs.Sets.{Tuple}
 use Rattle.relation.specs.Rows.{SpecRow}
 use Rattle.relation.proofs.Firsts.{length_firsts}
 use Rattle.relation.specs.declared.rows.Row.{Row}
@@ -40,7 +39,6 @@ cell_padded n xs (suc c) o h k =
     ∙ sym (slice_get-get_or (firsts n xs (pos 0)) c (pos 0) (omega (arith, length_firsts n xs (pos 0))))
     ∙ nth_firsts n xs (pos 0) c (omega arith)
     ∙ sym (slice_get-get_or xs c (pos 0) (omega arith))
-
 
 pub cell_at : {X : Type 0} (xs : List X) (i : ℕ) (d : X) → i < length xs → cell xs (i + 1) ≡ Some (get_or xs i d)
 cell_at xs i d h = rw add-one (slice_get-get_or xs i d h)

@@ -1,7 +1,7 @@
 -- Lemmas on a stored table.
 use Rattle.std.specs.List.{slice_get}
 use Rattle.std.proofs.lemmas.Option.{slice_get-get_or, slice_get_past}
-use Rattle.std.proofs.Common.{◌≡◌, ℕ, zero, suc, ◌+◌, ◌<◌, ◌≤◌, Bool, true, false, cond, ◌&&◌, ltb, leb, List, [], ◌∷◌, length, get_or, Some, None, Option, sym, refl, ap, subst, ⊎_elim, arith}
+use Rattle.std.proofs.Common.{min, not, ◌-◌, ◌∙◌, take, drop, ◌≡◌, ℕ, zero, suc, ◌+◌, ◌<◌, ◌≤◌, Bool, true, false, cond, ◌&&◌, ltb, leb, List, [], ◌∷◌, length, get_or, Some, None, Option, sym, refl, ap, subst, ⊎_elim, arith}
 use Rattle.std.proofs.lemmas.Bool.{and_parts, cases_lt, lt-ltb, le-leb, ltb-true, leb-true}
 use Rattle.relation.specs.declared.rows.Row.{Row}
 use Rattle.relation.specs.declared.kinds.Kind.{Kind}
@@ -9,7 +9,10 @@ use Rattle.relation.specs.Bounds.{most_columns, most_places}
 use Rattle.relation.specs.Rows.{SpecRow, is_period}
 use Rattle.relation.specs.Stored.{meant}
 use Rattle.source.specs.Meaning.{fits, Sound}
-use Rattle.source.specs.Tables.{meant?, table, Good, no_row, all_periods, all_fit, no_table}
+use Rattle.source.specs.Tables.{meant?, table, Good, no_row, all_periods, all_fit, no_rows, no_table, no_part}
+use Rattle.relation.specs.declared.refusals.Reason.{Reason}
+use Rattle.std.proofs.lemmas.List.{length-take, length-drop, get_or-take, get_or-drop, take_all, take_min, drop_all}
+use Rattle.std.proofs.Math.Seq.{take-length}
 use Rattle.source.proofs.Cells.{cond_some}
 use Rattle.relation.proofs.Every.{every_at}
 
@@ -51,23 +54,52 @@ pub few_columns : (rows : List Row) (start len : ℕ) (ks : List Kind) → Sound
 few_columns rows start len ks s = s.few_kinds
 
 -- a table is sound if its rows are good
-pub table_sound : (rows : List Row) (start len : ℕ) (ks : List Kind) → 1 ≤ length ks → length ks ≤ most_columns → length rows ≤ most_places
-    → ((i : ℕ) → i < start + len → start ≤ i → Good ks (meant (length ks) (get_or rows i no_row))) → Sound (table rows start len ks)
+table_sound : (rows : List Row) (start len : ℕ) (ks : List Kind) → 1 ≤ length ks → length ks ≤ most_columns → length rows ≤ most_places
+    → ((i : ℕ) → i < start + len → start ≤ i → i < length rows → Good ks (meant (length ks) (get_or rows i no_row))) → Sound (table rows start len ks)
 table_sound rows start len ks some few many each = record {
   some_kinds = some;
   few_kinds = few;
   few = many;
   filled = λ k r p.
       let f = filled_at rows start len ks k r p in
-      let good = subst (Good ks) f.row (each k f.upto f.from) in
+      let good = subst (Good ks) f.row (each k f.upto f.from f.below) in
       record { below = f.below; fitting = good.fitting; period = good.period };
 }
 
+-- a reason that does not apply
+cleared : (b : Bool) (o : Reason) (q : Option Reason) → cond (not b) (Some o) q ≡ None → (b ≡ true) × (q ≡ None)
+cleared true o q h = (refl, h)
+cleared false o q h = let z : ◌≡◌ {A = ℕ} 0 1 = cc in absurd (omega arith)
+
 -- rows that pass all tests are a table
-pub table_stands : (rows : List Row) (ks : List Kind) → 1 ≤ length ks → length ks ≤ most_columns → all_periods rows ≡ true → all_fit ks rows ≡ true → length rows ≤ most_places → (no_table rows ks ≡ None) × Sound (table rows 0 (length rows) ks)
-table_stands rows ks some few periods fit many = (
-  rw (le-leb 1 (length ks) some, le-leb (length ks) most_columns few, periods, fit, le-leb (length rows) most_places many),
-  table_sound rows 0 (length rows) ks some few many (λ i lt le.
-      let p = and_parts _ _ (every_at (λ w. is_period w.first w.end) rows no_row i periods (omega arith)) in
-      record { fitting = every_at (λ w. fits ks (meant (length ks) w).tuple) rows no_row i fit (omega arith); period = (ltb-true _ _ p.0, leb-true _ _ p.1) }),
-)
+pub part_stands : (rows : List Row) (start len : ℕ) (ks : List Kind) → no_part rows start len ks ≡ None → Sound (table rows start len ks)
+part_stands rows start len ks h =
+    let xs = take len (drop start rows) in
+    let columns = cleared (leb 1 (length ks) && leb (length ks) most_columns) _ _ h in
+    let some = and_parts (leb 1 (length ks)) (leb (length ks) most_columns) columns.0 in
+    let periods = cleared (all_periods xs) _ _ columns.1 in
+    let fit = cleared (all_fit ks xs) _ _ periods.1 in
+    let places = cleared (leb (length rows) most_places) _ _ fit.1 in
+    table_sound rows start len ks (leb-true 1 (length ks) some.0) (leb-true (length ks) most_columns some.1) (leb-true (length rows) most_places places.0)
+    (λ i lt le below.
+    let within : i - start < length xs = simp (length-take, length-drop) (omega arith) in
+    let back : start + (i - start) ≡ i = omega arith in
+    let here : get_or xs (i - start) no_row ≡ get_or rows i no_row = get_or-take len (drop start rows) (i - start) no_row (omega arith) ∙ get_or-drop start rows (i - start) no_row ∙ ap (λ j. get_or rows j no_row) back in
+    let p = and_parts _ _ (every_at (λ w. is_period w.first w.end) xs no_row (i - start) periods.0 within) in
+    subst (λ w. Good ks (meant (length ks) w)) here (record { fitting = every_at (λ w. fits ks (meant (length ks) w).tuple) xs no_row (i - start) fit.0 within; period = (ltb-true _ _ p.0, leb-true _ _ p.1) }))
+
+-- all rows are the part from the first on
+pub all_stand : (rows : List Row) (ks : List Kind) → no_table rows ks ≡ None → Sound (table rows 0 (length rows) ks)
+all_stand rows ks h = part_stands rows 0 (length rows) ks (ap (λ xs. no_rows (length rows) xs ks) (take-length rows) ∙ h)
+
+drop_low : (rows : List Row) (start a : ℕ) → a ≡ min start (length rows) → drop a rows ≡ drop start rows
+drop_low rows start a e =
+    ⊎_elim (λ lt. let same : a ≡ start = omega arith in ap (λ k. drop k rows) same)
+    (λ le. drop_all a rows (omega arith) ∙ sym (drop_all start rows le))
+    (cases_lt start (length rows))
+
+-- the part of the rows that is cut out, where it may begin or end past the last row
+pub part_is : (rows : List Row) (start len a n : ℕ) → a ≡ min start (length rows) → n ≡ min len (length (take (length rows - a) (drop a rows))) → take n (take (length rows - a) (drop a rows)) ≡ take len (drop start rows)
+part_is rows start len a n e f =
+    let whole : take (length rows - a) (drop a rows) ≡ drop a rows = take_all (length rows - a) (drop a rows) (simp (length-drop) (omega arith)) in
+    ap (λ xs. take n xs) whole ∙ ap (λ k. take k (drop a rows)) (f ∙ ap (λ xs. min len (length xs)) whole) ∙ take_min len (drop a rows) ∙ ap (take len) (drop_low rows start a e)

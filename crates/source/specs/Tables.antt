@@ -1,7 +1,7 @@
 -- What a table means: rows that lie beside each other in a lent area, one place for each row of the area.
 use Rattle.std.specs.List.{slice_get}
 use Rattle.std.specs.List.{list_all}
-use Rattle.std.specs.Prelude.{◌≡◌, ℕ, ◌+◌, ◌<◌, ◌≤◌, Bool, true, cond, not, ◌&&◌, List, [], length, take, Some, None, Option, ◌≢◌, nat_le, nat_lt}
+use Rattle.std.specs.Prelude.{◌≡◌, ℕ, ◌+◌, ◌<◌, ◌≤◌, Bool, true, cond, not, ◌&&◌, List, [], length, take, drop, Some, None, Option, ◌≢◌, nat_le, nat_lt}
 use Rattle.std.specs.declared.cmp.Ordering.TheVariants.{Less}
 use Rattle.std.specs.declared.cmp.Ordering.{Ordering}
 use Rattle.std.specs.Cmp.Lexicographic.{slice_cmp}
@@ -78,10 +78,18 @@ all_periods rows = list_all (λ w. is_period w.first w.end) rows
 abbrev pub all_fit : List Kind → List Row → Bool
 all_fit ks rows = list_all (λ w. fits ks (meant (length ks) w).tuple) rows
 
--- the reason why rows are no table of these kinds, the first that applies
-abbrev pub no_table : List Row → List Kind → Option Reason
-no_table rows ks =
+-- the reason why some rows of an area of so many are no table of these kinds, the first that applies
+abbrev pub no_rows : ℕ → List Row → List Kind → Option Reason
+no_rows places rows ks =
     cond (not (nat_le 1 (length ks) && nat_le (length ks) most_columns)) (Some Misfit)
     (cond (not (all_periods rows)) (Some NoPeriod)
     (cond (not (all_fit ks rows)) (Some OutOfBounds)
-    (cond (not (nat_le (length rows) most_places)) (Some TooManyPlaces) None)))
+    (cond (not (nat_le places most_places)) (Some TooManyPlaces) None)))
+
+-- the same of all rows
+abbrev pub no_table : List Row → List Kind → Option Reason
+no_table rows ks = no_rows (length rows) rows ks
+
+-- the same of the rows from start on, len of them
+abbrev pub no_part : List Row → ℕ → ℕ → List Kind → Option Reason
+no_part rows start len ks = no_rows (length rows) (take len (drop start rows)) ks

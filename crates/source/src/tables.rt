@@ -1,9 +1,9 @@
 // A table: rows that lie beside each other in a lent area, the other rows of the area being empty places.
-ghost use Rattle.std.specs.Prelude.{◌≡◌, ◌+◌, ◌<◌, ◌≤◌, min, true, length, Decides};
+ghost use Rattle.std.specs.Prelude.{◌≡◌, ◌+◌, ◌<◌, ◌≤◌, min, true, false, length, Decides, Some, None, MatchResult};
 ghost use Rattle.relation.specs.Bounds.{most_columns};
 ghost use Rattle.relation.specs.Refusals.{Answers};
 ghost use Rattle.source.specs.Meaning.{fits};
-ghost use Rattle.source.specs.Tables.{table, meant?, all_periods, all_fit, no_table, TableOk, Rising, leading, Leads, LowerBound, NextLed};
+ghost use Rattle.source.specs.Tables.{table, meant?, all_periods, all_fit, no_rows, no_table, no_part, TableOk, Rising, leading, Leads, LowerBound, NextLed};
 ghost use Rattle.relation.specs.Stored.{meant};
 ghost use Rattle.relation.specs.Values.{in_kind};
 ghost use Rattle.std.specs.List.{list_all, zip};
@@ -75,6 +75,25 @@ fn in_order(rows: &[Row], kinds: &[Kind]) -> bool
     rows.is_sorted_by(|row, next| !falls(row, next, kinds.len()))
 }
 
+// Whether some rows of an area of so many are a table of these kinds.
+fn check_rows(places: usize, rows: &[Row], kinds: &[Kind]) -> Result<(), Reason>
+    ensures { MatchResult result (λ _. no_rows places rows.now kinds.now ≡ None) (λ e. no_rows places rows.now kinds.now ≡ Some e) }
+{
+    if kinds.is_empty() || kinds.len() > MOST_COLUMNS {
+        return Err(Reason::Misfit);
+    }
+    if !all_periods(rows) {
+        return Err(Reason::NoPeriod);
+    }
+    if !all_fit(rows, kinds) {
+        return Err(Reason::OutOfBounds);
+    }
+    if places > MOST_PLACES {
+        return Err(Reason::TooManyPlaces);
+    }
+    Ok(())
+}
+
 #[derive(Clone, Copy)]
 pub struct Table<'a> {
     rows: &'a [Row],
@@ -87,44 +106,38 @@ pub struct Table<'a> {
 }
 
 impl<'a> Table<'a> {
-    // The `len` rows from `start` on, not looked at; `listed` says that they are known to be listed.
-    pub fn new(
-        rows: &'a [Row],
-        start: usize,
-        len: usize,
-        kinds: &'a [Kind],
-        listed: bool,
-    ) -> Table<'a>
-        requires { TableOk rows.now start len kinds.now listed }
-        ensures { (result.rows.now ≡ rows.now) × (result.start ≡ start) × (result.len ≡ len) × (result.kinds.now ≡ kinds.now) × (result.listed ≡ listed) }
-    {
-        Table {
-            rows,
-            kinds,
-            start,
-            len,
-            listed,
-        }
-    }
-
     // A table of all the rows, each looked at first.
     pub fn open(rows: &'a [Row], kinds: &'a [Kind]) -> Result<Table<'a>, Refusal>
         ensures { Answers result (no_table rows.now kinds.now) (λ t. (t.rows.now ≡ rows.now) × (t.start ≡ 0) × (t.len ≡ length rows.now) × (t.kinds.now ≡ kinds.now) × Decides t.listed (Rising (table rows.now 0 (length rows.now) kinds.now))) }
     {
-        if kinds.is_empty() || kinds.len() > MOST_COLUMNS {
-            return Err(Reason::Misfit.into());
-        }
-        if !all_periods(rows) {
-            return Err(Reason::NoPeriod.into());
-        }
-        if !all_fit(rows, kinds) {
-            return Err(Reason::OutOfBounds.into());
-        }
-        if rows.len() > MOST_PLACES {
-            return Err(Reason::TooManyPlaces.into());
-        }
-        let listed = in_order(rows, kinds);
-        Ok(Table::new(rows, 0, rows.len(), kinds, listed))
+        check_rows(rows.len(), rows, kinds)?;
+        Ok(Table {
+            rows,
+            kinds,
+            start: 0,
+            len: rows.len(),
+            listed: in_order(rows, kinds),
+        })
+    }
+
+    // A table of the `len` rows from `start` on, each looked at first, where the other rows are empty places.
+    pub fn part(
+        rows: &'a [Row],
+        start: usize,
+        len: usize,
+        kinds: &'a [Kind],
+    ) -> Result<Table<'a>, Refusal>
+        ensures { Answers result (no_part rows.now start len kinds.now) (λ t. (t.rows.now ≡ rows.now) × (t.start ≡ start) × (t.len ≡ len) × (t.kinds.now ≡ kinds.now) × (t.listed ≡ false)) }
+    {
+        let after = &rows[start.min(rows.len())..];
+        check_rows(rows.len(), &after[..len.min(after.len())], kinds)?;
+        Ok(Table {
+            rows,
+            kinds,
+            start,
+            len,
+            listed: false,
+        })
     }
 
     // The row at a place that is filled.
