@@ -1,7 +1,6 @@
 // One group of a tally.
 ghost use Rattle.std.specs.Prelude.{◌≡◌, ℕ, ◌*◌, ◌^◌, ◌<◌, ◌≤◌, length, take, drop, slice_index_or};
 ghost use Rattle.std.specs.List.{AllByRecursion as AllOf};
-ghost use Rattle.relation.specs.Bounds.{most_columns};
 ghost use Rattle.relation.specs.Rows.{Period, Holds};
 ghost use Rattle.collect.specs.Areas.{no_row, bare};
 ghost use Rattle.cuts.specs.Amounts.{Within};
@@ -15,6 +14,7 @@ use crate::amounts::add_up;
 use crate::bests::{Extreme, compare};
 use crate::cuts::write;
 use crate::days::ByDay;
+use crate::picks::Grouping;
 use crate::stretches::emit;
 use collect::sorting::sort;
 use relation::rows::Row;
@@ -51,12 +51,13 @@ fn cut_days(group: &[Row], cuts: &mut [Row], nodes: &mut [Node], what: Tally)
 
 // Tallies the rows of one group: writes to the start of `out`, in rising order, one row for each stretch between two neighbouring cuts
 // that some row holds, which has the group's values in the columns `by`, then the amount; answers how many. As many entries of `out` as
-// the group has cuts, and the nodes, may then hold anything.
+// the group has cuts, and the nodes, may then hold anything. How many nodes there are stands in the contract: they are an area that the
+// caller lends.
 pub fn tally_group(
     group: &[Row],
     out: &mut [Row],
     nodes: &mut [Node],
-    by: &[usize],
+    by: Grouping,
     what: Tally,
 ) -> usize
     requires some { 0 < length group.now }
@@ -64,14 +65,13 @@ pub fn tally_group(
     requires nodes_room { 2 * length group.now ≤ length nodes.old }
     requires few_nodes { length nodes.old < 2 ^ 32 }
     requires few_rows { length group.now ≤ most_rows }
-    requires narrow { length by.now < most_columns }
     requires periods { AllOf (λ w. Period (bare w)) group.now }
     requires within { AllOf (Within what) group.now }
     ensures few { result ≤ 2 * length group.now }
     ensures rest { drop (2 * length group.now) out.new ≡ drop (2 * length group.now) out.old }
     ensures periods { AllOf (λ w. Period (bare w)) (take result out.new) }
     ensures rising { (i j : ℕ) → i < j → j < result → (slice_index_or out.new i no_row).end ≤ (slice_index_or out.new j no_row).first }
-    ensures rows { (j d : ℕ) → j < result → Holds (bare (slice_index_or out.new j no_row)) d → Gives what by.now group.now d (slice_index_or out.new j no_row) }
+    ensures rows { (j d : ℕ) → j < result → Holds (bare (slice_index_or out.new j no_row)) d → Gives what by.entry.columns.now group.now d (slice_index_or out.new j no_row) }
     ensures all { (d : ℕ) → HeldIn group.now d → HeldIn (take result out.new) d }
 {
     let cuts = &mut out[..2 * group.len()];

@@ -4,7 +4,7 @@ use lib.ListN.{length-map}
 use Rattle.std.specs.List.{slice_get, list_all, AllByRecursion as AllOf}
 use Rattle.std.proofs.ByRecursion.{All-append, All-get_or, All-from_get_or}
 use Rattle.std.proofs.lemmas.List.{take_at, take-take}
-use Rattle.std.proofs.lemmas.Bool.{and_parts, ltb-true, false≢true}
+use Rattle.std.proofs.lemmas.Bool.{and_parts, false≢true}
 use Rattle.relation.specs.declared.kinds.Kind.{Kind}
 use Rattle.relation.specs.declared.kinds.Kind.TheVariants.{Number, Word}
 use Rattle.relation.specs.declared.rows.Row.{Row}
@@ -65,9 +65,6 @@ module _ (m : Meaning) (sound : Sound m) (w : Tally) (by : List ℕ) (fit : fitt
 
   later : (list_all there by && measurable m w) ≡ true
   later = (and_parts (ltb (length by) most_columns) (list_all there by && measurable m w) fit).1
-
-  pub few_columns : length by < most_columns
-  few_columns = ltb-true (length by) most_columns (and_parts (ltb (length by) most_columns) (list_all there by && measurable m w) fit).0
 
   in_row : (c : ℕ) → is_some (kind_of m c) ≡ true → c ≤ most_columns
   in_row c h = let l = cell_within m.kinds c h in omega (arith, sound.few_kinds)

@@ -1,9 +1,13 @@
 -- The call: when it is refused, and what it leaves in the whole areas.
-use Rattle.std.proofs.Common.{◌≡◌, ℕ, ◌*◌, ◌<◌, ◌≤◌, Bool, true, false, cond, not, leb, ◌⊎◌, List, ◌++◌, length, take, drop, replicate, Some, None, Ok, Err, Option, Result, sym, refl, ap, ◌∙◌, ap₂, inl, inr, arith}
+use Rattle.std.proofs.Common.{◌≡◌, ℕ, ◌*◌, ◌<◌, ◌≤◌, Bool, true, false, cond, not, leb, ltb, ◌⊎◌, List, ◌++◌, length, take, drop, replicate, Some, None, Ok, Err, Option, Result, sym, refl, ap, ◌∙◌, ap₂, inl, inr, arith}
 use native.Mathlib.Nat.{sub-zero}
 use borrow.Rule.Slice.PartMut.{post_of, Post-is}
 use Rattle.std.proofs.lemmas.List.{length-take-le}
-use Rattle.std.proofs.lemmas.Bool.{and_from, and_left, and_right, le-leb, lt-leb, cases_lt}
+use Rattle.std.proofs.lemmas.Bool.{and_from, and_left, and_right, le-leb, lt-leb, le-ltb, cases_lt}
+use Rattle.std.proofs.lemmas.Result.{err_from_is_err_and}
+use Rattle.std.specs.Option.{ok_or}
+use Rattle.std.specs.Result.{IsErrAnd}
+use Rattle.relation.specs.Bounds.{most_columns}
 use Rattle.relation.specs.declared.refusals.Reason.{Reason}
 use Rattle.relation.specs.declared.refusals.Reason.TheVariants.{Misfit, ShortWork}
 use Rattle.relation.specs.declared.refusals.Refusal.{Refusal}
@@ -34,6 +38,14 @@ module _ (m : Meaning) (w : Tally) (by : List ℕ) (rows : List Row) (index : Li
 
   pub misfit : fitting m w by ≡ false → plain? (no_tally m w by rows index) ≡ Some (plain Misfit)
   misfit e = ap (λ f. plain? (reason f (roomy m rows index))) e
+
+  -- what a `?` answers where there are too many columns
+  pub too_many : {Y : Type 0} (o : Option Y) (f : Reason) (r : Result ℕ Refusal) → most_columns ≤ length by → o ≡ None → ◌≡◌ {A = Result Y Reason} (Err f) (ok_or o Misfit) → IsErrAnd r (λ e. e ≡ plain f) → Tallies (no_tally m w by rows index) w by (day_set m) rows index r rows index
+  too_many {Y} o f r many none e h =
+      let p = err_from_is_err_and r h in
+      let s : ◌≡◌ {A = Result Y Reason} (Err f) (Err Misfit) = e ∙ ap (λ x. ok_or x Misfit) none in
+      let t : f ≡ Misfit = cc in
+      rw (p.1 ∙ ap Err (p.2 ∙ ap plain t)) (inl (misfit (and_left (ltb (length by) most_columns) _ (le-ltb (length by) most_columns many)), refl, refl))
 
   abbrev need : ℕ
   need = 3 * length (rows_of m)

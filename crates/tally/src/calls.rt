@@ -8,6 +8,7 @@ use crate::checks::fits;
 use crate::lists::tally_list;
 use collect::collects::collect;
 use collect::loads::count_filled;
+use cuts::picks::Grouping;
 use relation::bounds::MOST_WORK;
 use relation::refusals::{Reason, Refusal};
 use relation::rows::Row;
@@ -19,16 +20,16 @@ use tree::Node;
 fn tally_within<S: Source>(
     source: &S,
     what: Tally,
-    by: &[usize],
+    by: Grouping,
     rows: &mut [Row],
     index: &mut [Node],
 ) -> Result<usize, Refusal>
-    requires fits { fitting (S.Source.meaning source.now) what by.now ≡ true }
+    requires fits { fitting (S.Source.meaning source.now) what by.columns.now ≡ true }
     requires rows_room { 3 * length (rows_of (S.Source.meaning source.now)) ≤ length rows.old }
     requires index_room { 3 * length (rows_of (S.Source.meaning source.now)) ≤ length index.old }
     requires few_rows { length rows.old ≤ most_work }
     requires few_index { length index.old ≤ most_work }
-    ensures { TalliesSets what by.now (day_set (S.Source.meaning source.now)) (length rows.old) (length index.old) result rows.new index.new }
+    ensures { TalliesSets what by.entry.columns.now (day_set (S.Source.meaning source.now)) (length rows.old) (length index.old) result rows.new index.new }
 {
     let n = collect(source, rows, index)?;
     tally_list(rows, index, n, what, by)
@@ -48,6 +49,7 @@ pub fn tally<S: Source>(
 ) -> Result<usize, Refusal>
     ensures { Tallies (no_tally (S.Source.meaning source.now) what by.now rows.old index.old) what by.now (day_set (S.Source.meaning source.now)) rows.old index.old result rows.new index.new }
 {
+    let by = Grouping::new(by).ok_or(Reason::Misfit)?;
     if !fits(source, what, by) {
         return Err(Reason::Misfit.into());
     }

@@ -4,7 +4,7 @@ ghost use Rattle.std.specs.Prelude.{◌≡◌, is_some};
 ghost use Rattle.source.specs.Meaning.{kind_of};
 ghost use Rattle.tally.specs.Tallying.{measurable, fitting};
 
-use relation::bounds::MOST_COLUMNS;
+use cuts::picks::Grouping;
 use relation::kinds::Kind;
 use source::asks::Source;
 use tallies::rules::Tally;
@@ -27,9 +27,9 @@ fn has_measured<S: Source>(source: &S, what: Tally) -> bool
     }
 }
 
-// Whether there are few enough grouping columns, and the source has these and the tally's column.
-pub fn fits<S: Source>(source: &S, what: Tally, by: &[usize]) -> bool
-    ensures { result ≡ fitting (S.Source.meaning source.now) what by.now }
+// Whether the source has the grouping columns and the tally's column.
+pub fn fits<S: Source>(source: &S, what: Tally, by: Grouping) -> bool
+    ensures { result ≡ fitting (S.Source.meaning source.now) what by.entry.columns.now }
 {
-    by.len() < MOST_COLUMNS && has_columns(source, by) && has_measured(source, what)
+    has_columns(source, by.columns) && has_measured(source, what)
 }

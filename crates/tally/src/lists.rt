@@ -16,6 +16,7 @@ use crate::runs::tally_groups;
 use crate::sums::sums_fit;
 use collect::listing::list_rows;
 use collect::sorting::sort;
+use cuts::picks::Grouping;
 use relation::refusals::{Reason, Refusal};
 use relation::rows::Row;
 use tallies::rules::Tally;
@@ -37,21 +38,20 @@ pub fn tally_list(
     index: &mut [Node],
     n: usize,
     what: Tally,
-    by: &[usize],
+    by: Grouping,
 ) -> Result<usize, Refusal>
     requires rows_room { 3 * n ≤ length rows.old }
     requires index_room { 3 * n ≤ length index.old }
     requires few_index { length index.old ≤ most_work }
-    requires few_columns { length by.now < most_columns }
     requires narrow { Narrow what }
     requires periods { AllOf (λ w. Period (bare w)) (take n rows.old) }
     requires within { AllOf (Within what) (take n rows.old) }
-    ensures { (xs : List SpecRow) (f : ℕ → TupleSet) → take n rows.old ≡ map stored xs → Lists xs f → AllOf (λ c. c ≤ most_columns) by.now → TalliesSets what by.now f (length rows.old) (length index.old) result rows.new index.new }
+    ensures { (xs : List SpecRow) (f : ℕ → TupleSet) → take n rows.old ≡ map stored xs → Lists xs f → AllOf (λ c. c ≤ most_columns) by.entry.columns.now → TalliesSets what by.entry.columns.now f (length rows.old) (length index.old) result rows.new index.new }
 {
     let (listed, out) = rows.split_at_mut(n);
     sort(listed, index, &ByColumns { by });
     let made = tally_groups(listed, out, index, by, what);
-    if !sums_fit(what, &out[..made], by.len()) {
+    if !sums_fit(what, &out[..made], by.columns.len()) {
         blank_all(rows, index);
         return Err(Reason::SumOutside.into());
     }

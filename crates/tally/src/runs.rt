@@ -1,7 +1,6 @@
 // The groups of gathered rows, tallied one after the other.
 ghost use Rattle.std.specs.Prelude.{◌*◌, ◌^◌, ◌<◌, ◌≤◌, length, take};
 ghost use Rattle.std.specs.List.{AllByRecursion as AllOf};
-ghost use Rattle.relation.specs.Bounds.{most_columns};
 ghost use Rattle.relation.specs.Rows.{Period};
 ghost use Rattle.collect.specs.Areas.{bare};
 ghost use Rattle.cuts.specs.Amounts.{Within};
@@ -10,20 +9,21 @@ ghost use Rattle.tally.specs.Gathered.{Together, Run};
 ghost use Rattle.tally.specs.Results.{Results};
 
 use cuts::groups::tally_group;
-use cuts::picks::pick;
+use cuts::picks::{Grouping, pick};
 use relation::rows::Row;
 use tallies::rules::Tally;
 use tree::Node;
 
 // Where the group of the row at `from` ends: the index of the next row with other grouping values, or the number of rows.
-fn group_end(rows: &[Row], by: &[usize], from: usize) -> usize
+fn group_end(rows: &[Row], by: Grouping, from: usize) -> usize
     requires some { from < length rows.now }
-    requires narrow { length by.now < most_columns }
-    ensures { Run by.now rows.now from result }
+    ensures { Run by.entry.columns.now rows.now from result }
 {
-    let group = pick(&rows[from].values, by);
+    let group = pick(&rows[from].values, by.columns);
     let left = &rows[from..];
-    let more = left.iter().position(|row| pick(&row.values, by) != group);
+    let more = left
+        .iter()
+        .position(|row| pick(&row.values, by.columns) != group);
     from + more.unwrap_or(left.len())
 }
 
@@ -33,20 +33,20 @@ pub fn tally_groups(
     rows: &[Row],
     out: &mut [Row],
     nodes: &mut [Node],
-    by: &[usize],
+    by: Grouping,
     what: Tally,
 ) -> usize
     requires room { 2 * length rows.now ≤ length out.old }
     requires nodes_room { 2 * length rows.now ≤ length nodes.old }
     requires few_nodes { length nodes.old < 2 ^ 32 }
     requires few_rows { length rows.now ≤ most_rows }
-    requires narrow { length by.now < most_columns }
-    requires together { Together by.now rows.now }
+    requires together { Together by.columns.now rows.now }
     requires periods { AllOf (λ w. Period (bare w)) rows.now }
     requires within { AllOf (Within what) rows.now }
     ensures few { result ≤ 2 * length rows.now }
-    ensures results { Results what by.now rows.now (take result out.new) }
+    ensures results { Results what by.entry.columns.now rows.now (take result out.new) }
 {
+    // By index: a walk over `rows.chunk_by` was tried, and its proof did not close.
     let mut from = 0;
     let mut made = 0;
     while from < rows.len() {

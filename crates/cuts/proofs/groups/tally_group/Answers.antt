@@ -12,7 +12,7 @@ returns c =
     let cuts = c.emit.new.cuts in
     let long : length cuts ≡ 2 * length group = c.emit.auto.cuts ∙ c.cut_days.auto.cuts ∙ length-take-le (2 * length group) out c.requires.room in
     let few = c.emit.ensures.few in
-    let t = tallied c.args.what c.args.by.now group c.requires.periods c.emit.result cuts (drop (2 * length group) out) (omega (arith, few)) (c.emit.ensures.stretches ∙ ap (stretches_by (get_or group 0 no_row) c.args.by.now) c.cut_days.ensures) in
+    let t = tallied c.args.what c.args.by.columns.now group c.requires.periods c.emit.result cuts (drop (2 * length group) out) (omega (arith, few)) (c.emit.ensures.stretches ∙ ap (stretches_by (get_or group 0 no_row) c.args.by.columns.now) c.cut_days.ensures) in
     record {
       few = omega (arith, few);
       rest = drop_at cuts (drop (2 * length group) out) (2 * length group) long;

@@ -22,7 +22,7 @@ loop-i-preserved c =
     elim c.if-cut-gt0.branch [
       | then-cut-gt0+then-cut-next w ↦
           let amount_fits : SFits w64 (value 1 cut) = search rules in
-          let tuple = w.tuple_by-values.ensures ∙ ap (tuple_by group c.args.by.now) (to_z-of_z w64 (value 1 cut) amount_fits) in
+          let tuple = w.tuple_by-values.ensures ∙ ap (tuple_by group c.args.by.columns.now) (to_z-of_z w64 (value 1 cut) amount_fits) in
           met _ _ _ _ _ _ _ _ w.cuts-is w.made-is
           (emitting_one _ _ _ _ _ _ c.loop-i.invariant c.loop-i.auto.cuts c.loop-i.auto.i c.loop-i-test.true _ (ap (lt_z (pos 0)) (sym rows_are) ∙ w.if-cut-gt0.true) w.if-cut-next.true
           (λ k. record { first = cut.first; end = next.first; values = tuple k }))

@@ -10,9 +10,9 @@ use Rattle.cuts.proofs.stretches.tuple_by.Goals as goal
 
 pub returns : goal.returns
 returns c =
-    let by = c.args.by.now in
+    let by = c.args.by.columns.now in
     let vs = picked by c.args.group.now.values in
     let long : length vs ≡ length by = length-map by (λ k. column k c.args.group.now.values) in
     ap₂ (λ us z. set us (length by) z) c.pick-values.ensures (to_z-of_z w64 c.args.amount c.ranges.amount)
     ∙ ap (λ k. set (firsts most_columns vs (pos 0)) k c.args.amount) (sym long)
-    ∙ set_behind most_columns vs c.args.amount (pos 0) (omega arith)
+    ∙ set_behind most_columns vs c.args.amount (pos 0) (omega (arith, c.args.by.few))

@@ -9,7 +9,7 @@ use Rattle.collect.specs.Collects.{counted}
 use Rattle.collect.proofs.Indexed.{no_spec}
 use Rattle.cuts.specs.Amounts.{Within}
 use Rattle.tally.specs.Tallying.{TalliesSets}
-use Rattle.tally.proofs.Collected.{few_columns, columns, narrow, within, few_listed, fits_listed, left_front}
+use Rattle.tally.proofs.Collected.{columns, narrow, within, few_listed, fits_listed, left_front}
 use Rattle.tally.proofs.Whole.{collectable, not_refused}
 use Rattle.tally.proofs.calls.tally_within.Goals as goal
 
@@ -29,10 +29,9 @@ tally_list-requires g c =
       rows_room = omega arith;
       index_room = omega arith;
       few_index = omega arith;
-      few_columns = few_columns m s c.args.what c.args.by.now c.requires.fits;
-      narrow = narrow m s c.args.what c.args.by.now c.requires.fits;
+      narrow = narrow m s c.args.what c.args.by.columns.now c.requires.fits;
       periods = subst (AllOf (λ w. Period (bare w))) (sym front) (All-map (λ w. Period (bare w)) stored xs lists.canonical.periods);
-      within = subst (AllOf (Within c.args.what)) (sym front) (All-map (Within c.args.what) stored xs (All-from_get_or (λ x. Within c.args.what (stored x)) xs no_spec (λ i lt. within m s c.args.what c.args.by.now c.requires.fits _ (fits_listed m s xs lists i lt))));
+      within = subst (AllOf (Within c.args.what)) (sym front) (All-map (Within c.args.what) stored xs (All-from_get_or (λ x. Within c.args.what (stored x)) xs no_spec (λ i lt. within m s c.args.what c.args.by.columns.now c.requires.fits _ (fits_listed m s xs lists i lt))));
     }
 
 pub returns-in_err-n : goal.returns-in_err-n
@@ -51,6 +50,6 @@ returns g c =
     let fewer = few_listed m s xs left.part.lists in
     let few : n ≤ counted c.args.rows.now = omega arith in
     let front = left_front (day_set m) c.args.rows.now c.collect.new.rows c.args.index.now c.collect.new.index n left few in
-    let e = c.tally_list.ensures xs (day_set m) front left.part.lists (columns m s c.args.what c.args.by.now c.requires.fits) in
-    subst (λ k. TalliesSets c.args.what c.args.by.now (day_set m) k (length c.args.index.now) c.tally_list.result c.tally_list.new.rows c.tally_list.new.index) c.collect.auto.rows
-    (subst (λ k. TalliesSets c.args.what c.args.by.now (day_set m) (length c.collect.new.rows) k c.tally_list.result c.tally_list.new.rows c.tally_list.new.index) c.collect.auto.index e)
+    let e = c.tally_list.ensures xs (day_set m) front left.part.lists (columns m s c.args.what c.args.by.columns.now c.requires.fits) in
+    subst (λ k. TalliesSets c.args.what c.args.by.columns.now (day_set m) k (length c.args.index.now) c.tally_list.result c.tally_list.new.rows c.tally_list.new.index) c.collect.auto.rows
+    (subst (λ k. TalliesSets c.args.what c.args.by.columns.now (day_set m) (length c.collect.new.rows) k c.tally_list.result c.tally_list.new.rows c.tally_list.new.index) c.collect.auto.index e)

@@ -14,17 +14,17 @@ use Rattle.tally.proofs.Summed.{outside, not_outside}
 use Rattle.tally.proofs.lists.tally_list.Goals as goal
 
 pub tally_groups-made-requires-clause-together : goal.tally_groups-made-requires-clause-together
-tally_groups-made-requires-clause-together c = back_together c.args.by.now (take c.args.n c.args.rows.now) c.sort.new.rows (c.sort.ensures ∙ ap (gathered c.args.by.now) c.split_at_mut-listed.ensures.front) c.requires.few_columns
+tally_groups-made-requires-clause-together c = back_together c.args.by.columns.now (take c.args.n c.args.rows.now) c.sort.new.rows (c.sort.ensures ∙ ap (gathered c.args.by.columns.now) c.split_at_mut-listed.ensures.front) c.args.by.few
 
 pub tally_groups-made-requires-clause-periods : goal.tally_groups-made-requires-clause-periods
-tally_groups-made-requires-clause-periods c = all_back c.args.by.now (take c.args.n c.args.rows.now) c.sort.new.rows (c.sort.ensures ∙ ap (gathered c.args.by.now) c.split_at_mut-listed.ensures.front) (λ w. Period (bare w)) c.requires.periods
+tally_groups-made-requires-clause-periods c = all_back c.args.by.columns.now (take c.args.n c.args.rows.now) c.sort.new.rows (c.sort.ensures ∙ ap (gathered c.args.by.columns.now) c.split_at_mut-listed.ensures.front) (λ w. Period (bare w)) c.requires.periods
 
 pub tally_groups-made-requires-clause-within : goal.tally_groups-made-requires-clause-within
-tally_groups-made-requires-clause-within c = all_back c.args.by.now (take c.args.n c.args.rows.now) c.sort.new.rows (c.sort.ensures ∙ ap (gathered c.args.by.now) c.split_at_mut-listed.ensures.front) (Within c.args.what) c.requires.within
+tally_groups-made-requires-clause-within c = all_back c.args.by.columns.now (take c.args.n c.args.rows.now) c.sort.new.rows (c.sort.ensures ∙ ap (gathered c.args.by.columns.now) c.split_at_mut-listed.ensures.front) (Within c.args.what) c.requires.within
 
 pub returns-then-not-sums_fit : goal.returns-then-not-sums_fit
 returns-then-not-sums_fit c xs f from lists columns =
-    let by = c.args.by.now in
+    let by = c.args.by.columns.now in
     let e = c.tally_groups-made.ensures in
     let made = take c.tally_groups-made.result c.tally_groups-made.new.out in
     let split = c.split_at_mut-listed.ensures in
@@ -32,7 +32,7 @@ returns-then-not-sums_fit c xs f from lists columns =
     let wide : length (c.sort.new.rows ++ c.tally_groups-made.new.out) ≡ length c.args.rows.now = omega (arith, length-append c.sort.new.rows c.tally_groups-made.new.out, size, c.tally_groups-made.auto.out, split.back_len) in
     let long : length c.tally_groups-made.new.nodes ≡ length c.args.index.now = omega arith in
     let gathers = c.sort.ensures ∙ ap (gathered by) split.front in
-    let sets = result_sets by (take c.args.n c.args.rows.now) c.sort.new.rows gathers xs f from lists c.args.what c.requires.narrow columns c.requires.few_columns made e.results in (
+    let sets = result_sets by (take c.args.n c.args.rows.now) c.sort.new.rows gathers xs f from lists c.args.what c.requires.narrow columns c.args.by.few made e.results in (
       outside by f made e.results.periods c.args.what sets (sym c.if-not-sums_fit.ensures),
       c.into.ensures,
       c.blank_all.ensures.rows ∙ ap (λ k. replicate k blank_row) wide,
@@ -55,7 +55,7 @@ list_rows-requires-clause-periods c i lt =
 
 pub returns : goal.returns
 returns c xs f from lists columns =
-    let by = c.args.by.now in
+    let by = c.args.by.columns.now in
     let e = c.tally_groups-made.ensures in
     let r = c.tally_groups-made.result in
     let out = c.tally_groups-made.new.out in
@@ -66,8 +66,8 @@ returns c xs f from lists columns =
     let whole : length (c.sort.new.rows ++ c.tally_groups-made.new.out) ≡ length c.args.rows.now = omega (arith, length-append c.sort.new.rows c.tally_groups-made.new.out, size, c.tally_groups-made.auto.out, split.back_len) in
     let room : r ≤ length out = omega (arith, e.few, size, whole, length-append c.sort.new.rows out) in
     let gathers = c.sort.ensures ∙ ap (gathered by) split.front in
-    let sets = result_sets by (take c.args.n c.args.rows.now) c.sort.new.rows gathers xs f from lists c.args.what c.requires.narrow columns c.requires.few_columns made e.results in
-    let tidy = result_tidy by (take c.args.n c.args.rows.now) c.sort.new.rows gathers xs f from lists c.args.what c.requires.narrow columns c.requires.few_columns made e.results in
+    let sets = result_sets by (take c.args.n c.args.rows.now) c.sort.new.rows gathers xs f from lists c.args.what c.requires.narrow columns c.args.by.few made e.results in
+    let tidy = result_tidy by (take c.args.n c.args.rows.now) c.sort.new.rows gathers xs f from lists c.args.what c.requires.narrow columns c.args.by.few made e.results in
     let front : take r after ≡ made = moved c.sort.new.rows out after c.args.n r size room c.copy_within.ensures.len c.copy_within.ensures.by_index.0 in
     let cols = length by + 1 in
     let listed = c.list_rows.ensures cols (omega arith) (subst (AllOf (Tidy cols)) (sym front) tidy) in

@@ -18,10 +18,10 @@ loop-from-preserved c =
     let few = c.loop-from.invariant.0.few in
     let le : made ≤ length out = omega (arith, few) in
     let room : c.tally_group-made.result ≤ length part = omega (arith, few, size, e.few, c.tally_group-made.auto.out, run.within) in (
-      running_more c.args.what c.args.by.now rows out from made c.loop-from.invariant.0 c.requires.together c.loop-from-test.true upto run _ part c.tally_group-made.result e.few room
+      running_more c.args.what c.args.by.columns.now rows out from made c.loop-from.invariant.0 c.requires.together c.loop-from-test.true upto run _ part c.tally_group-made.result e.few room
           (given_still out part made le) (λ j lt. given_new out part made le j (omega arith)) e.periods e.rows e.all,
       search rules,
     )
 
 pub returns-clause-results : goal.returns-clause-results
-returns-clause-results c = running_all c.args.what c.args.by.now c.args.rows.now c.loop-from.out c.loop-from.from c.loop-from.made c.loop-from.invariant.0 c.loop-from-test.false (omega (arith, c.loop-from.invariant.0.few, c.loop-from.invariant.0.reached))
+returns-clause-results c = running_all c.args.what c.args.by.columns.now c.args.rows.now c.loop-from.out c.loop-from.from c.loop-from.made c.loop-from.invariant.0 c.loop-from-test.false (omega (arith, c.loop-from.invariant.0.few, c.loop-from.invariant.0.reached))
