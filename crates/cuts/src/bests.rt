@@ -7,7 +7,7 @@ use crate::cuts::cut;
 use crate::picks::value_of;
 use relation::rows::Row;
 
-// Which of two values is kept.
+// Which of two values is kept. An enum: handed in as a closure, what is kept would be a relation in each contract below, and no value.
 #[derive(Clone, Copy)]
 pub enum Extreme {
     Least,
