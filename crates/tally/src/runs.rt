@@ -46,7 +46,7 @@ pub fn tally_groups(
     ensures few { result ≤ 2 * length rows.now }
     ensures results { Results what by.entry.columns.now rows.now (take result out.new) }
 {
-    // By index: a walk over `rows.chunk_by` was tried, and its proof did not close.
+    // By index: over `rows.chunk_by` the search does not close the proof.
     let mut from = 0;
     let mut made = 0;
     while from < rows.len() {
