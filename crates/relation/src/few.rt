@@ -1,10 +1,11 @@
 // A short list that is kept in place, in a lent area or in a field: nothing is allocated.
-ghost use Rattle.std.specs.Prelude.{◌≡◌, ◌<◌, ◌≤◌, [], ◌∷◌, ◌++◌, length, take, MatchOption, slice_get};
+ghost use Rattle.std.specs.Prelude.{◌≡◌, ◌<◌, ◌≤◌, [], ◌∷◌, ◌++◌, length, take, MatchOption, slice_get, ⊤};
 ghost use Rattle.std.specs.Option.{option_map};
 
 use std::alloc::AllocError;
 
 // At most N elements, in their order.
+#[derive(Debug)]
 pub struct Few<T, const N: usize> {
     at: [T; N],
     len: usize,
@@ -14,7 +15,9 @@ pub struct Few<T, const N: usize> {
 impl<T: Copy, const N: usize> Copy for Few<T, N> {}
 
 impl<T: Copy, const N: usize> Clone for Few<T, N> {
-    ghost use Rattle.relation.specs.Few.{items};
+    ghost is_clone = { λ x y. y ≡ x };
+
+    ghost is_infallible = { λ _. ⊤ };
 
     fn clone(&self) -> Result<Few<T, N>, AllocError> {
         Ok(*self)
