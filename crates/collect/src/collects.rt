@@ -14,6 +14,8 @@ use source::asks::Source;
 use source::tables::Table;
 use tree::Node;
 
+// A work area is two areas, rows and index entries, that the caller lends: each may be too short by itself, and no type holds both.
+//
 // Leaves the canonical list of the source's day sets at the start of `rows`, blanks the other rows and all
 // index entries that count, and answers the number of rows. It needs as many of both as the source has
 // filled places; where either is shorter it is refused and changes nothing.

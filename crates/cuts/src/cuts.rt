@@ -46,6 +46,7 @@ pub fn write(group: &[Row], cuts: &mut [Row], what: Tally)
     requires within { AllOf (Within what) group.now }
     ensures { cuts.new ≡ cuts_of what group.now }
 {
+    // By index: two cuts lie beside each other for each row.
     for (i, row) in group.iter().enumerate() {
         let change = change_by(row, what);
         cuts[2 * i] = cut(row.first, change.rows, change.amount);

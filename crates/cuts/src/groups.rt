@@ -21,6 +21,9 @@ use relation::rows::Row;
 use tallies::rules::Tally;
 use tree::Node;
 
+// What holds of a group's rows and of its cuts stands in each contract below: both lie within lent rows, and a type around them would
+// have to be made anew for each part that is lent on.
+
 // Puts at each cut of a group the number and the amount of the group's rows that hold its day.
 fn measure_cuts(group: &[Row], cuts: &mut [Row], what: Tally)
     requires few { length cuts.old ≤ most_cuts }

@@ -68,6 +68,8 @@ fn ask_uncovered<H: Source + Drop, C: Source + Drop, V: Source + Drop>(
     Window::new(joined, days)
 }
 
+// Each list is made in two areas that the caller lends, and reads just the sources that it needs.
+
 // Lists the instruments that were out.
 pub fn list_out<H: Source + Drop>(
     hires: H,

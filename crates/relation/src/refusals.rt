@@ -39,6 +39,7 @@ pub enum Reason {
 }
 
 impl Reason {
+    // A table, as the rules have it; as discriminants of the cases the numbers would say the same.
     pub fn number(self) -> u32
         ensures { result ≡ number self }
     {

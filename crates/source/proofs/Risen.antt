@@ -20,7 +20,7 @@ use Rattle.relation.proofs.Clear.{below_asym, below_irrefl}
 use Rattle.source.specs.Meaning.{Meaning, Begins}
 use Rattle.source.specs.Tables.{table, no_row, Rising, leading, Leads, LowerBound, NextLed}
 use Rattle.source.proofs.Leads.{less_back, greater_on, begins_equal, equal_begins}
-use Rattle.source.proofs.TableRows.{row_in, filled_at}
+use Rattle.source.proofs.TableRows.{row_in, filled_at, part_is}
 
 is_less : (o : Ordering) → is_lt o ≡ true → o ≡ Less
 is_less Less h = refl
@@ -186,3 +186,46 @@ module _ (rows : List Row) (start len : ℕ) (ks : List Kind) (lead : Tuple) (fr
         let here : get_or xs (p - from) no_row ≡ get_or rows p no_row = at (p - from) no_row (omega (arith, long)) ∙ ap (λ i. get_or rows i no_row) back in
         both_ways _ (ap (λ v. is_lt (leading v.tuple lead)) (sym (ap (meant (length ks)) here ∙ f.row)) ∙ point.1 (p - from) no_row (omega arith) (omega (arith, long))) (ap is_lt less);
   }
+
+-- ---- the part of the rows from one place on, as a table of its own
+
+module _ (rows : List Row) (start len : ℕ) (ks : List Kind) where
+  abbrev some : List Row
+  some = take len (drop start rows)
+
+  long : length some ≡ min len (length rows - start)
+  long = simp (length-take, length-drop)
+
+  at : (i : ℕ) (d : Row) → i < length some → get_or some i d ≡ get_or rows (start + i) d
+  at i d h = get_or-take len (drop start rows) i d (omega (arith, long)) ∙ get_or-drop start rows i d
+
+  pub rising_part : Rising (table some 0 (length some) ks) → Rising (table rows start len ks)
+  rising_part rise = record {
+    rise = λ i j r s lt p q.
+        let f = filled_at rows start len ks i r p in
+        let g = filled_at rows start len ks j s q in
+        let back : start + (i - start) ≡ i = omega arith in
+        let forth : start + (j - start) ≡ j = omega arith in
+        let first : meant (length ks) (get_or some (i - start) no_row) ≡ r = ap (meant (length ks)) (at (i - start) no_row (omega (arith, long)) ∙ ap (λ k. get_or rows k no_row) back) ∙ f.row in
+        let second : meant (length ks) (get_or some (j - start) no_row) ≡ s = ap (meant (length ks)) (at (j - start) no_row (omega (arith, long)) ∙ ap (λ k. get_or rows k no_row) forth) ∙ g.row in
+        rise.rise (i - start) (j - start) r s (omega arith)
+        (sym (row_in some 0 (length some) ks (i - start) no_row (omega arith) (omega (arith, long)) (omega (arith, long))) ∙ ap Some first)
+        (sym (row_in some 0 (length some) ks (j - start) no_row (omega arith) (omega (arith, long)) (omega (arith, long))) ∙ ap Some second);
+  }
+
+  pub part_rising : Rising (table rows start len ks) → Rising (table some 0 (length some) ks)
+  part_rising rise = record {
+    rise = λ i j r s lt p q.
+        let f = filled_at some 0 (length some) ks i r p in
+        let g = filled_at some 0 (length some) ks j s q in
+        rise.rise (start + i) (start + j) r s (omega arith)
+        (sym (row_in rows start len ks (start + i) no_row (omega arith) (omega (arith, long)) (omega (arith, long))) ∙ ap (λ w. Some (meant (length ks) w)) (sym (at i no_row (omega arith))) ∙ ap Some f.row)
+        (sym (row_in rows start len ks (start + j) no_row (omega arith) (omega (arith, long)) (omega (arith, long))) ∙ ap (λ w. Some (meant (length ks) w)) (sym (at j no_row (omega arith))) ∙ ap Some g.row);
+  }
+
+-- the same of the part as it is cut out
+pub part_told : (rows : List Row) (start len a n : ℕ) (ks : List Kind) (r : Bool) → a ≡ min start (length rows) → n ≡ min len (length (take (length rows - a) (drop a rows)))
+    → Decides r (Rising (table (take n (take (length rows - a) (drop a rows))) 0 (length (take n (take (length rows - a) (drop a rows)))) ks)) → Decides r (Rising (table rows start len ks))
+part_told rows start len a n ks r e f d =
+    let t = subst (λ xs. Decides r (Rising (table xs 0 (length xs) ks))) (part_is rows start len a n e f) d in
+    (λ h. rising_part rows start len ks (t.0 h), λ rise. t.1 (part_rising rows start len ks rise))

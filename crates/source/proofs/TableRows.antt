@@ -1,8 +1,9 @@
 -- Lemmas on a stored table.
 use Rattle.std.specs.List.{slice_get}
 use Rattle.std.proofs.lemmas.Option.{slice_get-get_or, slice_get_past}
+use Rattle.std.specs.List.{list_all}
 use Rattle.std.proofs.Common.{min, not, ◌-◌, ◌∙◌, take, drop, ◌≡◌, ℕ, zero, suc, ◌+◌, ◌<◌, ◌≤◌, Bool, true, false, cond, ◌&&◌, ltb, leb, List, [], ◌∷◌, length, get_or, Some, None, Option, sym, refl, ap, subst, ⊎_elim, arith}
-use Rattle.std.proofs.lemmas.Bool.{and_parts, cases_lt, lt-ltb, le-leb, ltb-true, leb-true}
+use Rattle.std.proofs.lemmas.Bool.{and_from, and_parts, cases_lt, lt-ltb, le-leb, ltb-true, leb-true}
 use Rattle.relation.specs.declared.rows.Row.{Row}
 use Rattle.relation.specs.declared.kinds.Kind.{Kind}
 use Rattle.relation.specs.Bounds.{most_columns, most_places}
@@ -103,3 +104,27 @@ pub part_is : (rows : List Row) (start len a n : ℕ) → a ≡ min start (lengt
 part_is rows start len a n e f =
     let whole : take (length rows - a) (drop a rows) ≡ drop a rows = take_all (length rows - a) (drop a rows) (simp (length-drop) (omega arith)) in
     ap (λ xs. take n xs) whole ∙ ap (λ k. take k (drop a rows)) (f ∙ ap (λ xs. min len (length xs)) whole) ∙ take_min len (drop a rows) ∙ ap (take len) (drop_low rows start a e)
+
+-- ---- the rows of a table that is sound pass all tests
+
+each_passes : {X : Type 0} (p : X → Bool) (xs : List X) (d : X) → ((i : ℕ) → i < length xs → p (get_or xs i d) ≡ true) → list_all p xs ≡ true
+each_passes p [] d h = refl
+each_passes p (x ∷ xs) d h = and_from (p x) (list_all p xs) (h 0 (omega arith)) (each_passes p xs d (λ i lt. h (suc i) (omega arith)))
+
+pub sound_passes : (rows : List Row) (start len : ℕ) (ks : List Kind) → Sound (table rows start len ks) → no_part rows start len ks ≡ None
+sound_passes rows start len ks s =
+    let xs = take len (drop start rows) in
+    let long : length xs ≡ min len (length rows - start) = simp (length-take, length-drop) in
+    let each : (i : ℕ) → i < length xs → (is_period (get_or xs i no_row).first (get_or xs i no_row).end ≡ true) × (fits ks (meant (length ks) (get_or xs i no_row)).tuple ≡ true) = λ i lt.
+    let here : get_or xs i no_row ≡ get_or rows (start + i) no_row = get_or-take len (drop start rows) i no_row (omega (arith, long)) ∙ get_or-drop start rows i no_row in
+    let there = row_in rows start len ks (start + i) no_row (omega arith) (omega (arith, long)) (omega (arith, long)) in
+    let good = s.filled (start + i) (meant (length ks) (get_or rows (start + i) no_row)) (sym there) in
+    subst (λ w. (is_period w.first w.end ≡ true) × (fits ks (meant (length ks) w).tuple ≡ true)) (sym here) (and_from (ltb _ _) (leb _ _) (lt-ltb _ _ good.period.0) (le-leb _ _ good.period.1), good.fitting) in
+    let periods : all_periods xs ≡ true = each_passes (λ w. is_period w.first w.end) xs no_row (λ i lt. (each i lt).0) in
+    let fit : all_fit ks xs ≡ true = each_passes (λ w. fits ks (meant (length ks) w).tuple) xs no_row (λ i lt. (each i lt).1) in
+    rw (le-leb 1 (length ks) s.some_kinds, le-leb (length ks) most_columns s.few_kinds, periods, fit, le-leb (length rows) most_places s.few) refl
+
+-- the part as it is cut out has passed
+pub part_passed : (rows : List Row) (start len a n : ℕ) (ks : List Kind) → a ≡ min start (length rows) → n ≡ min len (length (take (length rows - a) (drop a rows)))
+    → no_rows (length rows) (take n (take (length rows - a) (drop a rows))) ks ≡ None → no_part rows start len ks ≡ None
+part_passed rows start len a n ks e f h = ap (λ xs. no_rows (length rows) xs ks) (sym (part_is rows start len a n e f)) ∙ h

@@ -1,5 +1,5 @@
 // A table: rows that lie beside each other in a lent area, the other rows of the area being empty places.
-ghost use Rattle.std.specs.Prelude.{◌≡◌, ◌+◌, ◌<◌, ◌≤◌, min, true, false, length, Decides, Some, None, MatchResult};
+ghost use Rattle.std.specs.Prelude.{◌≡◌, ◌+◌, ◌<◌, ◌≤◌, min, true, length, Decides, Some, None, MatchResult};
 ghost use Rattle.relation.specs.Bounds.{most_columns};
 ghost use Rattle.relation.specs.Refusals.{Answers};
 ghost use Rattle.source.specs.Meaning.{fits};
@@ -35,7 +35,8 @@ fn all_hold(kinds: &[Kind], values: &[i64]) -> bool
         .all(|(kind, value)| kind.holds(*value))
 }
 
-// Whether the row's values are within the bounds of their kinds.
+// Whether the row's values are within the bounds of their kinds. That they are few is asked here and below, and kept by no type:
+// a caller's slice may be of any length, and a table of too many is refused.
 pub fn fits_kinds(row: &Row, kinds: &[Kind]) -> bool
     requires { length kinds.now ≤ most_columns }
     ensures { result ≡ fits kinds.now (meant (length kinds.now) row.now).tuple }
@@ -100,7 +101,8 @@ pub struct Table<'a> {
     kinds: &'a [Kind],
     start: usize,
     len: usize,
-    // The rows are known to be listed: from row to row the tuples rise or stay equal.
+    // The rows are known to be listed: from row to row the tuples rise or stay equal. A flag and no type of its own: a listed table
+    // answers the same, only `seek` goes faster.
     listed: bool,
     ghost ok: { TableOk rows.now start len kinds.now listed },
 }
@@ -127,16 +129,17 @@ impl<'a> Table<'a> {
         len: usize,
         kinds: &'a [Kind],
     ) -> Result<Table<'a>, Refusal>
-        ensures { Answers result (no_part rows.now start len kinds.now) (λ t. (t.rows.now ≡ rows.now) × (t.start ≡ start) × (t.len ≡ len) × (t.kinds.now ≡ kinds.now) × (t.listed ≡ false)) }
+        ensures { Answers result (no_part rows.now start len kinds.now) (λ t. (t.rows.now ≡ rows.now) × (t.start ≡ start) × (t.len ≡ len) × (t.kinds.now ≡ kinds.now) × Decides t.listed (Rising (table rows.now start len kinds.now))) }
     {
         let after = &rows[start.min(rows.len())..];
-        check_rows(rows.len(), &after[..len.min(after.len())], kinds)?;
+        let part = &after[..len.min(after.len())];
+        check_rows(rows.len(), part, kinds)?;
         Ok(Table {
             rows,
             kinds,
             start,
             len,
-            listed: false,
+            listed: in_order(part, kinds),
         })
     }
 

@@ -35,6 +35,8 @@ fn tally_within<S: Source>(
     tally_list(rows, index, n, what, by)
 }
 
+// The rows and the index entries are two areas that the caller lends, each of which may be too short by itself.
+//
 // Leaves the canonical list of the tallied day sets at the start of `rows`, blanks the other rows and all index entries that count, and
 // answers the number of rows: on each day one tuple for each group, its values in the columns `by`, then its count, sum, least or
 // greatest value. It is refused where a column is missing, a sum is of words or there are more than five grouping columns, then where
