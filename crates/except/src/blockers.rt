@@ -62,7 +62,7 @@ impl<S: Source> Blockers<'_, S> {
     {
         let n = self.source.places();
         let mut least = end;
-        // `seek` gives each next place, and a place tells which piece it is of: an iterator of rows tells neither.
+        // No iterator: which places `seek` passes over with a lead is left to the source, so what it meets is no list to name.
         let mut p = self.source.seek(0, self.tuple);
         while p < n {
             let found = self.get(p);
