@@ -145,7 +145,7 @@ impl<'a> Store<'a> {
     {
         let used = sum(&self.directory.entries);
         let at = start(&self.directory.entries, i + 1);
-        open(self.rows, at, used, row);
+        open(&mut self.rows[at..used + 1], row);
         self.directory.grow(i)
     }
 
@@ -161,7 +161,7 @@ impl<'a> Store<'a> {
         let used = sum(&self.directory.entries);
         let at = start(&self.directory.entries, i);
         let count = self.directory.clear(i);
-        close(self.rows, at, count, used);
+        close(&mut self.rows[at..used], count);
         count
     }
 
@@ -196,7 +196,7 @@ impl<'a> Store<'a> {
         let used = sum(&self.directory.entries);
         let at = start(&self.directory.entries, i);
         let count = self.directory.at(i).count;
-        replace(self.rows, at, count, &work[..kept], used);
+        replace(&mut self.rows[at..used], count, &work[..kept]);
         self.directory.publish(i, kept);
         Ok(kept)
     }
