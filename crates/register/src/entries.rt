@@ -23,6 +23,7 @@ pub struct Name {
 // What an entry is in use for.
 #[derive(Clone, Copy, PartialEq, Eq)]
 pub enum Mark {
+    // No `Option<Entry>`: `at`, `grow` and `publish` would each have an arm for None that no call reaches; a free entry counts 0 rows, so sums need no test.
     Free,
     // Rows may be put; the holder of the slip publishes or abandons it.
     Draft,
@@ -100,6 +101,7 @@ impl Entry {
     }
 }
 
+// A place is a plain number: what else is known of it, its mark and its count, is a fact of the directory too, which no type for places can keep.
 impl Directory {
     // A directory with no entry in use.
     pub fn empty() -> Directory

@@ -89,6 +89,7 @@ fn check_row(kinds: &[Kind], given: &[Kind], row: &Row) -> Result<(), Reason>
     Ok(())
 }
 
+// That a place stands as a draft is a fact of the store and the place together, and places are handed on inside this crate alone: so it stands in contracts.
 impl<'a> Store<'a> {
     // The place of what has the name and the mark.
     fn place(&self, name: Name, mark: Mark) -> Option<usize>
