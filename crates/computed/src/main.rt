@@ -42,7 +42,7 @@ const ASKED: Span = Span {
 // The days that are left out.
 const AWAY: Span = Span { first: 45, end: 75 };
 
-// The areas that a list is made in.
+// The areas that a list is made in. Arrays, and no `Workspace`: the program asks nothing of the heap, so they cannot fail to be made.
 #[derive(Drop)]
 struct Work {
     rows: [Row; 64],

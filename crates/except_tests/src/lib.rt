@@ -1,4 +1,4 @@
-// Excepts over tables: small cases, and the whole way from rows to the rows of an except without a `requires`.
+// Excepts over tables: small cases, and the whole way from rows to the rows of an except, in which no call asks anything of its caller.
 #![tactic(auto)]
 
 use except::excepts::Except;

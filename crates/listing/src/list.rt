@@ -59,7 +59,7 @@ pub(crate) fn put_list<S: Sink>(sink: &mut S, name: &[u8], kinds: &[Kind], rows:
 }
 
 // Writes the text of the rows: a line `NAME KINDS ROWS`, then a line `FROM UNTIL VALUE ..` for each, in their order.
-// A value past the sixth is 0. Refused by 12, with nothing written, where the text does not fit whole.
+// A value past the sixth is 0. Refused by `Reason::ShortOutput`, with nothing written, where the text does not fit whole.
 pub fn write_list(
     name: &[u8],
     kinds: &[Kind],

@@ -1,4 +1,4 @@
-// What takes a text, part by part: one sink finds whether there is room for the whole, the other writes it.
+// What takes a text, part by part: one sink finds whether there is room for the whole, one writes it to lent bytes, and one, in `show`, to a formatter.
 ghost use Rattle.std.specs.Prelude.{◌≡◌, List, ℕ, [], ◌++◌};
 ghost use Rattle.listing.specs.Sinks.{left_of, Extends};
 ghost use Rattle.listing.specs.SinkLaws.{left_nothing, left_both, extends_nothing, extends_both};

@@ -1,5 +1,6 @@
 -- What the rows are after a place is opened or closed.
 use Rattle.std.proofs.Common.{◌≡◌, ℕ, ◌+◌, ◌-◌, ◌<◌, ◌≤◌, List, [], ◌∷◌, ◌++◌, length, get_or, take, drop, replicate, arith, rules}
+use borrow.Rule.Slice.PartMut.{put_mid}
 use Rattle.std.proofs.lemmas.List.{same_lists, places}
 
 module _ {X : Type 0} (rs : List X) where
@@ -66,7 +67,14 @@ module _ {X : Type 0} (rs : List X) where
     pub replaced_blank : (k : ℕ) (d : X) → s + length new + q ≤ k → k < used → get_or (replaced at c new used b) k d ≡ b
     replaced_blank k d h l = grind (arith, places)
 
--- rows are written at a place, and then some are taken out behind them
-module _ {X : Type 0} (rs : List X) (at c used : ℕ) (new : List X) (b : X) (low : at + c ≤ used) (less : length new ≤ c) (room : used ≤ length rs) where
-  pub replaced_is : closed (take at rs ++ (new ++ drop (at + length new) rs)) (at + length new) (c - length new) used b ≡ replaced rs at c new used b
-  replaced_is = same_lists _ _ (search (rules, places)) (λ k d h. grind (arith, places))
+-- a part of the rows is changed where it lies
+module _ {X : Type 0} (rs : List X) (at used : ℕ) (low : at ≤ used) where
+  pub opened_part : (row : X) → used < length rs → put_mid at (used + 1 - at) rs (row ∷ take (length (take (used + 1 - at) (drop at rs)) - 1) (take (used + 1 - at) (drop at rs))) ≡ opened rs at used row
+  opened_part row room = same_lists _ _ (search (rules, places)) (λ k d h. grind (arith, places))
+
+  pub closed_part : (c : ℕ) (b : X) → at + c ≤ used → used ≤ length rs → put_mid at (used - at) rs (drop c (take (used - at) (drop at rs)) ++ replicate c b) ≡ closed rs at c used b
+  closed_part c b less room = same_lists _ _ (search (rules, places)) (λ k d h. grind (arith, places))
+
+  pub replaced_part : (c : ℕ) (new : List X) (b : X) → at + c ≤ used → length new ≤ c → used ≤ length rs →
+      put_mid at (used - at) rs (new ++ (drop c (take (used - at) (drop at rs)) ++ replicate (c - length new) b)) ≡ replaced rs at c new used b
+  replaced_part c new b less fits room = same_lists _ _ (search (rules, places)) (λ k d h. grind (arith, places))

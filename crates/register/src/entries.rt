@@ -23,6 +23,7 @@ pub struct Name {
 // What an entry is in use for.
 #[derive(Clone, Copy, PartialEq, Eq)]
 pub enum Mark {
+    // No `Option<Entry>`: `grow`, `publish` and the callers of `at` would have arms for None that no call reaches, and a sum would have to pass None over.
     Free,
     // Rows may be put; the holder of the slip publishes or abandons it.
     Draft,
@@ -100,6 +101,7 @@ impl Entry {
     }
 }
 
+// A place is a plain number: a type for it could keep that it is below ENTRIES, but its mark and its count, facts of the directory too, would still be asked.
 impl Directory {
     // A directory with no entry in use.
     pub fn empty() -> Directory
@@ -126,15 +128,12 @@ impl Directory {
         self.entries[i] = entry;
     }
 
-    // Gives an entry up, and answers how many rows it had.
-    pub fn clear(&mut self, i: usize) -> usize
+    // Gives an entry up.
+    pub fn clear(&mut self, i: usize)
         requires { i < most_entries }
-        ensures after { (e : Entry) × Vacant e × (self.new.entries ≡ slice_set self.old.entries i e) }
-        ensures count { result ≡ (get_or self.old.entries i free).count }
+        ensures { (e : Entry) × Vacant e × (self.new.entries ≡ slice_set self.old.entries i e) }
     {
-        let count = self.entries[i].count;
         self.entries[i] = Entry::free();
-        count
     }
 
     // Marks an entry as published, with so many rows.

@@ -38,35 +38,33 @@ pub fn start(entries: &[Entry], i: usize) -> usize
     sum(&entries[..i])
 }
 
-// Writes the row at a place, and moves those from there to `used` on by one.
-pub fn open(rows: &mut [Row], at: usize, used: usize, row: Row)
-    requires low { at ≤ used }
-    requires high { used < length rows.old }
-    ensures { rows.new ≡ take at rows.old ++ (row ∷ (take (used - at) (drop at rows.old) ++ drop (used + 1) rows.old)) }
+// Writes the row before the others, which move on by one, over the last.
+pub fn open(rows: &mut [Row], row: Row)
+    requires { 0 < length rows.old }
+    ensures { rows.new ≡ row ∷ take (length rows.old - 1) rows.old }
 {
-    rows[at..used + 1].rotate_right(1);
-    rows[at] = row;
+    rows.rotate_right(1);
+    rows[0] = row;
 }
 
-// Takes `count` rows out at a place, moves those from there to `used` back, and blanks the end.
-pub fn close(rows: &mut [Row], at: usize, count: usize, used: usize)
-    requires low { at + count ≤ used }
-    requires high { used ≤ length rows.old }
-    ensures { rows.new ≡ take at rows.old ++ (take (used - at - count) (drop (at + count) rows.old) ++ (replicate count blank_row ++ drop used rows.old)) }
+// Takes the first `count` rows out, moves the others back, and blanks the end.
+pub fn close(rows: &mut [Row], count: usize)
+    requires { count ≤ length rows.old }
+    ensures { rows.new ≡ drop count rows.old ++ replicate count blank_row }
 {
-    rows[at..used].rotate_left(count);
-    rows[used - count..used].fill(Row::blank());
+    rows.rotate_left(count);
+    let kept = rows.len() - count;
+    rows[kept..].fill(Row::blank());
 }
 
-// Writes `new` in the place of the first of `count` rows, takes the others out, moves those from there to
-// `used` back, and blanks the end.
-pub fn replace(rows: &mut [Row], at: usize, count: usize, new: &[Row], used: usize)
-    requires low { at + count ≤ used }
+// Writes `new` in the place of the first of `count` rows, takes the others of those out, moves the rest back,
+// and blanks the end.
+pub fn replace(rows: &mut [Row], count: usize, new: &[Row])
+    requires within { count ≤ length rows.old }
     requires fits { length new.now ≤ count }
-    requires high { used ≤ length rows.old }
-    ensures { rows.new ≡ take at rows.old ++ (new.now ++ (take (used - at - count) (drop (at + count) rows.old) ++ (replicate (count - length new.now) blank_row ++ drop used rows.old))) }
+    ensures { rows.new ≡ new.now ++ (drop count rows.old ++ replicate (count - length new.now) blank_row) }
 {
     let kept = new.len();
-    rows[at..at + kept].copy_from_slice(new);
-    close(rows, at + kept, count - kept, used);
+    rows[..kept].copy_from_slice(new);
+    close(&mut rows[kept..], count - kept);
 }

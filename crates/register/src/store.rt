@@ -1,5 +1,5 @@
 // The rows that a register was lent, and the directory that shares them out.
-ghost use Rattle.std.specs.Prelude.{◌≡◌, ◌≢◌, ℕ, ◌<◌, ◌≤◌, true, false, length, drop, get_or, Some, None, MatchOption, MatchResult, slice_index_or};
+ghost use Rattle.std.specs.Prelude.{◌≡◌, ◌≢◌, ℕ, ◌<◌, ◌≤◌, true, false, length, take, drop, get_or, Some, None, MatchOption, MatchResult, slice_index_or};
 ghost use Rattle.std.specs.List.{list_all};
 ghost use Rattle.relation.specs.Bounds.{most_columns, most_entries};
 ghost use Rattle.relation.specs.Refusals.{plain?};
@@ -12,7 +12,7 @@ ghost use Rattle.tree.specs.Trees.{blank as blank_node};
 ghost use Rattle.layers.specs.Alike.{same_kinds};
 ghost use Rattle.relation.specs.declared.refusals.Reason.TheVariants as no;
 ghost use Rattle.register.specs.declared.entries.Mark.TheVariants.{Draft, Published};
-ghost use Rattle.register.specs.Layout.{free, bearer, is_few, is_zero, good_row};
+ghost use Rattle.register.specs.Layout.{total, free, bearer, is_few, is_zero, good_row};
 ghost use Rattle.register.specs.State.{held, used, rows_of, Whole, Leaves, added, size_of, mark_of, code_at, mark_at, rows_at, Put, Drafted, Issued, is_there, blanked};
 ghost use Rattle.register.specs.Refusals.{err_of, rest_zero, row_no, slip_fits, put_no, draft_no, drop_no, work_no, show_no, show_text, Shown};
 
@@ -89,6 +89,7 @@ fn check_row(kinds: &[Kind], given: &[Kind], row: &Row) -> Result<(), Reason>
     Ok(())
 }
 
+// That a place stands as a draft is a fact of the store and the place together, and places are handed on inside this crate alone: so it stands in contracts.
 impl<'a> Store<'a> {
     // The place of what has the name and the mark.
     fn place(&self, name: Name, mark: Mark) -> Option<usize>
@@ -119,6 +120,17 @@ impl<'a> Store<'a> {
         self.place(name, Mark::Published)
     }
 
+    // Where the rows of an entry begin, and the entry.
+    fn laid(&self, i: usize) -> (usize, Entry)
+        requires whole { Whole self.now }
+        requires within { i < most_entries }
+        ensures start { result.0 ≡ total (take i self.now.directory.entries) }
+        ensures entry { result.1 ≡ get_or self.now.directory.entries i free }
+    {
+        let at = start(&self.directory.entries, i);
+        (at, self.directory.at(i))
+    }
+
     // Writes the text of a published relation, and answers how many bytes it has.
     pub fn show(&self, name: &[u8], output: &mut [u8]) -> Result<usize, Refusal>
         requires { Whole self.now }
@@ -126,8 +138,7 @@ impl<'a> Store<'a> {
         ensures after { MatchResult result (λ k. Shown (show_text self.now name.now) k output.old output.new) (λ _. output.new ≡ output.old) }
     {
         let i = self.published_at(name).ok_or(Reason::Name)?;
-        let at = start(&self.directory.entries, i);
-        let entry = self.directory.at(i);
+        let (at, entry) = self.laid(i);
         let rows = &self.rows[at..at + entry.count];
         write_list(name, entry.kinds.as_slice(), rows, output)
     }
@@ -145,7 +156,7 @@ impl<'a> Store<'a> {
     {
         let used = sum(&self.directory.entries);
         let at = start(&self.directory.entries, i + 1);
-        open(self.rows, at, used, row);
+        open(&mut self.rows[at..used + 1], row);
         self.directory.grow(i)
     }
 
@@ -159,10 +170,10 @@ impl<'a> Store<'a> {
         ensures size { result ≡ size_of (held self.old (code_at self.old i)) }
     {
         let used = sum(&self.directory.entries);
-        let at = start(&self.directory.entries, i);
-        let count = self.directory.clear(i);
-        close(self.rows, at, count, used);
-        count
+        let (at, entry) = self.laid(i);
+        self.directory.clear(i);
+        close(&mut self.rows[at..used], entry.count);
+        entry.count
     }
 
     // Leaves the canonical list of a draft's rows in the work area, and answers how many rows it has.
@@ -173,8 +184,7 @@ impl<'a> Store<'a> {
         ensures { Collects (work_no (length (rows_at self.now i)) work.old index.old) (day_sets (rows_at self.now i)) work.old index.old result work.new index.new }
     {
         let capacity = self.capacity();
-        let at = start(&self.directory.entries, i);
-        let entry = self.directory.at(i);
+        let (at, entry) = self.laid(i);
         let rows = &self.rows[..capacity];
         let kinds = entry.kinds.as_slice();
         coalesce_part(rows, at, entry.count, kinds, work, index)
@@ -194,9 +204,8 @@ impl<'a> Store<'a> {
     {
         let kept = self.coalesce(i, work, index)?;
         let used = sum(&self.directory.entries);
-        let at = start(&self.directory.entries, i);
-        let count = self.directory.at(i).count;
-        replace(self.rows, at, count, &work[..kept], used);
+        let (at, entry) = self.laid(i);
+        replace(&mut self.rows[at..used], entry.count, &work[..kept]);
         self.directory.publish(i, kept);
         Ok(kept)
     }

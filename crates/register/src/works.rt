@@ -19,7 +19,8 @@ use source::tables::Table;
 use tree::Node;
 
 // Leaves the canonical list of the `len` rows from `start` on at the start of the work rows,
-// and answers how many rows it has.
+// and answers how many rows it has. `Table::part`, and not `Table::open` of those rows: by the rules a stored table has one place for each
+// row of the capacity.
 pub fn coalesce_part(
     rows: &[Row],
     start: usize,

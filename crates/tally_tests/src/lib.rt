@@ -1,4 +1,4 @@
-// Tallies of tables and of a project: small cases, and the way from rows to a tallied list without a `requires`.
+// Tallies of tables and of a project: small cases, and the whole way from rows to a tallied list, in which no call asks anything of its caller.
 #![tactic(auto)]
 
 use layers::projects::Project;
@@ -69,8 +69,7 @@ mod tests {
             assert_eq!(rt; row, &Row::blank());
         }
         for node in index {
-            assert!(rt; node.left == 0 && node.right == 0 && node.place == 0);
-            assert!(rt; node.level == 0 && node.rank == 0);
+            assert_eq!(rt; node, &Node::blank());
         }
         Ok(())
     }

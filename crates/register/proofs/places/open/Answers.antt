@@ -4,4 +4,4 @@ use Rattle.std.proofs.lemmas.Bool.{cases_eq}
 use Rattle.register.proofs.places.open.Goals as goal
 
 pub returns : goal.returns
-returns c = same_lists _ _ (search (rules, places)) (λ k d h. grind (arith, places, get_or-set_same, cases_eq k c.args.at))
+returns c = same_lists _ _ (search (rules, places)) (λ k d h. grind (arith, places, get_or-set_same, cases_eq k 0))

@@ -1,5 +1,6 @@
-use Rattle.std.proofs.Common.{◌≡◌, ℕ, ◌<◌, length, get_or, take, set, sym, ap, ◌∙◌, subst, arith}
-use Rattle.std.proofs.lemmas.List.{length-take}
+use Rattle.std.proofs.Common.{◌≡◌, ℕ, ◌+◌, ◌-◌, ◌<◌, ◌≤◌, length, get_or, take, set, sym, ap, ◌∙◌, subst, arith}
+use borrow.Rule.Slice.PartMut.{put_mid}
+use Rattle.std.proofs.lemmas.List.{length-take, length-drop}
 use Rattle.std.proofs.lemmas.Result.{err_from_is_err_and}
 use Rattle.relation.specs.Refusals.{plain?}
 use Rattle.relation.specs.Stored.{blank_row}
@@ -8,7 +9,7 @@ use Rattle.register.specs.Layout.{free, issued_entry}
 use Rattle.register.specs.State.{size_of, code_at, Issued}
 use Rattle.register.specs.Refusals.{work_no}
 use Rattle.register.proofs.Changes.{held_at, draft_bears}
-use Rattle.register.proofs.Moves.{replaced}
+use Rattle.register.proofs.Moves.{replaced, replaced_part}
 use Rattle.register.proofs.Publishing.{kept_in, publish_result}
 use Rattle.register.proofs.Storage.{total_split}
 use Rattle.register.proofs.store.Store.issue.Goals as goal
@@ -30,15 +31,16 @@ slice_bounds-replace-end-3 c =
     let k = kept_in c.args.self.now c.args.i c.in_ok-kept.kept c.args.work.now c.coalesce.new.work c.args.index.now c.coalesce.new.index c.requires.whole c.requires.within c.requires.draft c.in_ok-kept.ensures.1 in
     omega (arith, k.0, length-take c.in_ok-kept.kept c.coalesce.new.work)
 
-pub replace-requires-clause-low : goal.replace-requires-clause-low
-replace-requires-clause-low c =
-    let w = total_split c.args.self.now.directory.entries c.args.i free (omega (arith, c.requires.whole.all, c.requires.within)) in
-    omega (arith, w, ap (λ x. x.count) c.at-count.ensures)
+pub replace-requires-clause-within : goal.replace-requires-clause-within
+replace-requires-clause-within c =
+    let s = c.args.self.now in
+    let w = total_split s.directory.entries c.args.i free (omega (arith, c.requires.whole.all, c.requires.within)) in
+    simp (length-take, length-drop) (omega (arith, w, ap (λ x. x.count) c.laid-at.ensures.entry, c.requires.whole.room, c.laid-at.ensures.start, c.sum-used.ensures))
 
 pub replace-requires-clause-fits : goal.replace-requires-clause-fits
 replace-requires-clause-fits c =
     let k = kept_in c.args.self.now c.args.i c.in_ok-kept.kept c.args.work.now c.coalesce.new.work c.args.index.now c.coalesce.new.index c.requires.whole c.requires.within c.requires.draft c.in_ok-kept.ensures.1 in
-    omega (arith, k.2, ap (λ x. x.count) c.at-count.ensures)
+    omega (arith, k.2, ap (λ x. x.count) c.laid-at.ensures.entry)
 
 pub returns : goal.returns
 returns c =
@@ -46,14 +48,24 @@ returns c =
     let es = s.directory.entries in
     let i = c.args.i in
     let e = get_or es i free in
-    let t : Store = record { rows = record { ref_ptr = s.rows.ref_ptr; ghost_name = s.rows.ghost_name; now = c.replace.new.rows }; directory = c.publish.new.self } in
+    let t : Store = record { rows = record { ref_ptr = s.rows.ref_ptr; ghost_name = s.rows.ghost_name; now = put_mid c.laid-at.result.0 (c.sum-used.result - c.laid-at.result.0) s.rows.now c.replace.new.rows }; directory = c.publish.new.self } in
     let l = c.in_ok-kept.ensures.1 in
     let k = kept_in s i c.in_ok-kept.kept c.args.work.now c.coalesce.new.work c.args.index.now c.coalesce.new.index c.requires.whole c.requires.within c.requires.draft l in
     let b : i < length es = omega (arith, c.requires.whole.all, c.requires.within) in
     let o = held_at es s.rows.now i (code_at s i) c.requires.whole.apart b (draft_bears e c.requires.draft) in
-    let n : c.at-count.result.count ≡ e.count = ap (λ x. x.count) c.at-count.ensures in
-    let r = publish_result s t i c.start-at.result c.sum-used.result l.part.list (take c.in_ok-kept.kept c.coalesce.new.work) c.requires.whole c.requires.within c.requires.draft c.start-at.ensures c.sum-used.ensures k.1 l.part.lists
-    (c.publish.ensures ∙ ap (λ m. set es i (issued_entry e m)) l.part.count) (c.replace.ensures ∙ ap (λ m. replaced s.rows.now c.start-at.result m (take c.in_ok-kept.kept c.coalesce.new.work) c.sum-used.result blank_row) n) in
+    let n : c.laid-at.result.1.count ≡ e.count = ap (λ x. x.count) c.laid-at.ensures.entry in
+    let at = c.laid-at.result.0 in
+    let u = c.sum-used.result in
+    let m = c.laid-at.result.1.count in
+    let new = take c.in_ok-kept.kept c.coalesce.new.work in
+    let w = total_split es i free b in
+    let less : at + m ≤ u = omega (arith, w, n, c.laid-at.ensures.start, c.sum-used.ensures) in
+    let low : at ≤ u = omega (arith, less) in
+    let fits : length new ≤ m = omega (arith, k.2, n) in
+    let room : u ≤ length s.rows.now = omega (arith, c.requires.whole.room, c.sum-used.ensures) in
+    let moved = ap (put_mid at (u - at) s.rows.now) c.replace.ensures ∙ replaced_part s.rows.now at u low m new blank_row less fits room in
+    let r = publish_result s t i c.laid-at.result.0 c.sum-used.result l.part.list (take c.in_ok-kept.kept c.coalesce.new.work) c.requires.whole c.requires.within c.requires.draft c.laid-at.ensures.start c.sum-used.ensures k.1 l.part.lists
+    (c.publish.ensures ∙ ap (λ m. set es i (issued_entry e m)) l.part.count) (moved ∙ ap (λ m. replaced s.rows.now at m new u blank_row) n) in
     record {
       whole = r.0;
       refused = sym (ap plain? (ap (λ x. work_no (size_of x) c.args.work.now c.args.index.now) o ∙ c.in_ok-kept.ensures.0));

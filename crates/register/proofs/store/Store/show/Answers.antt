@@ -20,11 +20,11 @@ pub returns : goal.returns
 returns c =
     let s = c.args.self.now in
     let i = c.in_ok-i.i in
-    let at = c.start-at.result in
+    let at = c.laid-at.result.0 in
     let e = get_or s.directory.entries i free in
     let f = MatchOption-at_some _ _ c.in_ok-i.i c.in_ok-i.ensures.ok_part c.published_at.ensures in
-    let ks : c.as_slice.result.now ≡ items e.kinds = c.as_slice.ensures.items ∙ ap (λ x. items x.kinds) c.at-entry.ensures in
-    let n : c.at-entry.result.count ≡ e.count = ap (λ x. x.count) c.at-entry.ensures in
+    let ks : c.as_slice.result.now ≡ items e.kinds = c.as_slice.ensures.items ∙ ap (λ x. items x.kinds) c.laid-at.ensures.entry in
+    let n : c.laid-at.result.1.count ≡ e.count = ap (λ x. x.count) c.laid-at.ensures.entry in
     let r = show_result s c.args.name.now _ c.args.output.now c.write_list.new.output c.write_list.result f.0
-    ((λ j. list_text c.args.name.now (ks j) (map (meant (length (ks j))) (take (at + n j - at) (drop at s.rows.now)))) ∙ text_at s c.args.name.now i at c.requires f.1 f.2 f.3 c.start-at.ensures) c.write_list.ensures in
+    ((λ j. list_text c.args.name.now (ks j) (map (meant (length (ks j))) (take (at + n j - at) (drop at s.rows.now)))) ∙ text_at s c.args.name.now i at c.requires f.1 f.2 f.3 c.laid-at.ensures.start) c.write_list.ensures in
     record { refused = r.0; after = r.1 }
