@@ -1,13 +1,12 @@
 // What the lines of a text say, as text.
 use grammar::lines::{Line, Operand, Query};
-use grammar::tails::read_column;
 use lists::show::{KindLetters, ValueText};
 use relation::conditions::{Sign, Term};
 use relation::kinds::Kind;
 use relation::values::word_value;
 use std::fmt;
 use std::str::from_utf8;
-use takers::read_value;
+use takers::{read_column, read_value};
 use takers::tails::some_left;
 use tallies::rules::Tally;
 use words::reader::Words;

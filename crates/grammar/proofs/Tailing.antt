@@ -6,13 +6,13 @@ use Rattle.std.proofs.lemmas.Bool.{cond-true, and_parts, and_from, leb-true, le-
 use Rattle.words.specs.declared.names.Reserved.{Reserved}
 use Rattle.words.specs.declared.tokens.Position.TheVariants as position
 use Rattle.words.specs.Token.{token, column}
-use Rattle.takers.specs.Take.{Text, ◌then◌, Val, column_in, nothing, value_of, all_values}
+use Rattle.takers.specs.Take.{Text, ◌then◌, Val, column_in, nothing, value_of, column_at, all_values}
 use Rattle.takers.specs.Writing.{WritesValue, WritesColumn, spelled_reserved}
 use Rattle.std.proofs.lemmas.Option.{same_Some, cond_some}
 use Rattle.takers.proofs.Options.{absent, then_some, then_is}
 use Rattle.takers.proofs.Spelling.{column_token}
 use Rattle.takers.proofs.Taking.{nothing_read, value_of_lem, value_is, column_read, taken_take}
-use Rattle.grammar.specs.Said.{also, gathered, column_at, pair_at, values_in, columns_in, pairs_in}
+use Rattle.grammar.specs.Said.{also, gathered, pair_at, values_in, columns_in, pairs_in}
 use Rattle.grammar.specs.Grammar.{take_reserved, all_columns, all_pairs, filled, optionally}
 use Rattle.grammar.specs.Language.{Each, EachPair, Optional}
 

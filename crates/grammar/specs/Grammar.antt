@@ -12,7 +12,7 @@ use Rattle.words.specs.declared.names.Reserved.TheVariants as reserved
 use Rattle.words.specs.declared.tokens.Position.TheVariants as position
 use Rattle.words.specs.Rest.{rest}
 use Rattle.words.specs.Token.{Tok, name, numeral, quoted, column, sign}
-use Rattle.takers.specs.Take.{Text, ◌then◌, take_token, take_name, take_number, take_column, take_sign, take_equals, take_kinds, take_row, nothing, is_blank}
+use Rattle.takers.specs.Take.{Text, ◌then◌, column_at, take_token, take_name, take_number, take_column, take_sign, take_equals, take_kinds, take_row, nothing, is_blank}
 use Rattle.takers.specs.Writing.{spelled_reserved}
 use Rattle.grammar.specs.declared.keywords.Verb.{Verb}
 use Rattle.grammar.specs.declared.keywords.Verb.TheVariants.{Select, Project, Union, Except, Join, Count, Sum, Min, Max}
@@ -20,7 +20,7 @@ use Rattle.grammar.specs.declared.keywords.Keyword.{Keyword}
 use Rattle.grammar.specs.declared.keywords.Keyword.TheVariants.{Load, Row, End, Drop, Show, Query}
 use Rattle.grammar.specs.Keywords.{keyword}
 use Rattle.grammar.specs.declared.queries.Measure.{Measure}
-use Rattle.grammar.specs.Said.{column_at, pair_at, values_in, columns_in, pairs_in, windowed, says_operand}
+use Rattle.grammar.specs.Said.{pair_at, values_in, columns_in, pairs_in, windowed, says_operand}
 use Rattle.grammar.specs.Meaning as meaning
 
 -- ---- parts

@@ -3,9 +3,7 @@ use Rattle.std.specs.Prelude.{◌≡◌, ℕ, Bool, List, [], ◌∷◌, ℤ, So
 use Rattle.relation.specs.Few.{items}
 use Rattle.words.specs.declared.reader.Words.{Words}
 use Rattle.words.specs.Rest.{rest}
-use Rattle.words.specs.Token.{token}
-use Rattle.takers.specs.Take.{Text, Val, ◌then◌, column_in, value_of}
-use Rattle.words.specs.declared.tokens.Position.TheVariants as position
+use Rattle.takers.specs.Take.{Text, Val, ◌then◌, column_at, value_of}
 use Rattle.grammar.specs.declared.lines.Operand.{Operand}
 use Rattle.grammar.specs.declared.lines.Query.{Query}
 use Rattle.grammar.specs.declared.lines.Query.TheVariants as query
@@ -24,10 +22,6 @@ also (Some x) xs = x ∷ xs
 abbrev pub gathered : {A : Type 0} → (Text → Option A) → List Text → List A
 gathered f [] = []
 gathered f (w ∷ ws) = also (f w) (gathered f ws)
-
--- the column that a word is
-abbrev pub column_at : Text → Option ℕ
-column_at w = token position.Column w then column_in
 
 -- the columns that two words are
 abbrev pub pair_at : Text → Text → Option (ℕ × ℕ)

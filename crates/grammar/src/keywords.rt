@@ -3,8 +3,8 @@ ghost use Rattle.std.specs.Prelude.{◌≡◌};
 ghost use Rattle.std.specs.Result.{result_ok};
 ghost use Rattle.grammar.specs.Keywords.{keyword};
 
-use std::str::{FromStr, from_utf8};
-use words::names::UnknownWord;
+use std::str::FromStr;
+use words::names::{UnknownWord, find};
 
 // The nine queries.
 #[derive(Clone, Copy, Drop)]
@@ -60,5 +60,5 @@ impl FromStr for Keyword {
 pub fn find_keyword(word: &[u8]) -> Option<Keyword>
     ensures { result ≡ keyword word.now }
 {
-    from_utf8(word).ok()?.parse().ok()
+    find(word)
 }

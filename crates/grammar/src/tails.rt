@@ -2,26 +2,15 @@
 ghost use Rattle.std.specs.Prelude.{◌≡◌, Bool, List, is_some};
 ghost use Rattle.std.specs.Option.{option_map};
 ghost use Rattle.words.specs.Rest.{rest};
-ghost use Rattle.takers.specs.Take.{Text};
-ghost use Rattle.grammar.specs.Said.{column_at, pair_at, Tells};
+ghost use Rattle.takers.specs.Take.{Text, column_at};
+ghost use Rattle.grammar.specs.Said.{pair_at, Tells};
 ghost use Rattle.grammar.specs.Grammar.{all_columns, all_pairs, filled, optionally, take_reserved, take_pairs, take_groups};
 
 use crate::parts::take_if;
 use takers::tails::some_left;
-use takers::take_end;
+use takers::{read_column, take_end};
 use words::names::Reserved;
 use words::reader::Words;
-use words::tokens::{Position, Token, read_token};
-
-// The column that a word is.
-pub fn read_column(word: &[u8]) -> Option<usize>
-    ensures { result ≡ column_at word.now }
-{
-    match read_token(word, Position::Column)? {
-        Token::Column(k) => Some(k),
-        _ => None,
-    }
-}
 
 // The columns that two words are.
 pub fn read_pair(left: &[u8], right: &[u8]) -> Option<(usize, usize)>

@@ -6,7 +6,7 @@ use relation::kinds::Kind;
 use relation::rows::Row;
 use relation::values::word_value;
 use takers::{read_value, take_end};
-use words::kinds::kind_of;
+use words::kinds::read_letters;
 use words::numbers::signed;
 use words::reader::Words;
 use words::tokens::Value;
@@ -60,17 +60,10 @@ fn take_register(words: &mut Words<'_>) -> Option<Which> {
 // Letters n and w; a hyphen stands for none.
 fn take_letters(words: &mut Words<'_>) -> Option<Letters> {
     let text = words.next()?.text;
-    let mut letters = Letters::new(Kind::Number);
     if text == b"-".as_slice() {
-        return Some(letters);
+        return Some(Letters::new(Kind::Number));
     }
-    if text.len() > MOST_LETTERS {
-        return None;
-    }
-    for letter in text {
-        letters.push(kind_of(*letter)?);
-    }
-    Some(letters)
+    read_letters(text)
 }
 
 // The number that a value is held as.

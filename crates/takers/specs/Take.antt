@@ -111,6 +111,10 @@ nothing (w ∷ ws) = None
 abbrev pub value_of : Text → Option Val
 value_of w = token position.Name w then value_in
 
+-- the column that a word is
+abbrev pub column_at : Text → Option ℕ
+column_at w = token position.Column w then column_in
+
 abbrev pub is_value : Text → Bool
 is_value w = is_some (value_of w)
 

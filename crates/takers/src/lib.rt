@@ -6,7 +6,7 @@ ghost use Rattle.std.specs.Option.{option_map};
 ghost use Rattle.relation.specs.Few.{items};
 ghost use Rattle.words.specs.Rest.{rest, words_left};
 ghost use Rattle.words.specs.Token.{means, token};
-ghost use Rattle.takers.specs.Take.{take_token, name_in, number_in, value_in, column_in, sign_in, means_value, value_of, take_name, take_number, take_value, take_column, take_sign, take_equals, take_kinds, nothing};
+ghost use Rattle.takers.specs.Take.{take_token, name_in, number_in, value_in, column_in, sign_in, means_value, value_of, column_at, take_name, take_number, take_value, take_column, take_sign, take_equals, take_kinds, nothing};
 
 use relation::columns::Kinds;
 use relation::conditions::Sign;
@@ -16,8 +16,7 @@ use words::tokens::{Placed, Position, Token, Value, read_token};
 
 pub mod tails;
 
-// Each kind of token has a taker of its own: numbers and columns are both integers, so that a type parameter could not
-// say which of them is taken.
+// Each of these asks for a variant of Token: variants are no types, so that a type parameter could not name the one.
 fn as_name<'a>(token: Token<'a>) -> Option<&'a [u8]>
     ensures { option_map (λ x. x.now) result ≡ name_in (means token.entry) }
 {
@@ -71,6 +70,13 @@ pub fn read_value<'a>(word: &'a [u8]) -> Option<Value<'a>>
     as_value(read_token(word, Position::Name)?)
 }
 
+// The column that a word is.
+pub fn read_column(word: &[u8]) -> Option<usize>
+    ensures { result ≡ column_at word.now }
+{
+    as_column(read_token(word, Position::Column)?)
+}
+
 // The next word as a token, with the place where it stands.
 pub fn take_token<'a>(words: &mut Words<'a>, position: Position) -> Option<Placed<'a>>
     ensures taken { MatchOption result (take_token position (rest words.old) ≡ None) (λ t. take_token position (rest words.old) ≡ Some (means t.token, rest words.new)) }
@@ -84,6 +90,7 @@ pub fn take_token<'a>(words: &mut Words<'a>, position: Position) -> Option<Place
     })
 }
 
+// Each taker is one line: one for all would take a position and a closure, and say its result by the closure's relation.
 pub fn take_name<'a>(words: &mut Words<'a>) -> Option<&'a [u8]>
     ensures { MatchOption result (take_name (rest words.old) ≡ None) (λ n. take_name (rest words.old) ≡ Some (n.now, rest words.new)) }
 {

@@ -16,6 +16,10 @@ kind_of b = cond (b == 119) Word Number
 abbrev pub is_kinds : List ℕ → Bool
 is_kinds w = nat_le 1 (length w) && list_all kind_byte w
 
+-- at most n letters, a kind each
+abbrev pub letters_of : ℕ → List ℕ → Option (List Kind)
+letters_of n w = cond (list_all kind_byte w && nat_le (length w) n) (Some (map kind_of w)) None
+
 -- 1 to 6 letters, a kind each
 abbrev pub kinds_of : List ℕ → Option (List Kind)
 kinds_of w = cond (is_kinds w && nat_le (length w) most_columns) (Some (map kind_of w)) None

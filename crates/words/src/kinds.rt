@@ -3,10 +3,10 @@ ghost use Rattle.std.specs.Prelude.{◌≡◌, cond, Some, None};
 ghost use Rattle.std.specs.List.{list_all};
 ghost use Rattle.std.specs.Option.{option_map};
 ghost use Rattle.relation.specs.Few.{items};
-ghost use Rattle.words.specs.Kinds.{kind_byte, kind_of, is_kinds, kinds_of};
+ghost use Rattle.words.specs.Kinds.{kind_byte, kind_of, is_kinds, letters_of, kinds_of};
 
-use relation::bounds::MOST_COLUMNS;
 use relation::columns::Kinds;
+use relation::few::Few;
 use relation::kinds::Kind;
 
 // The kind that a letter is.
@@ -39,16 +39,26 @@ pub fn is_kinds(word: &[u8]) -> bool
     1 <= word.len() && kind_bytes(word)
 }
 
-// The kinds that 1 to 6 letters are.
-pub fn read_kinds(word: &[u8]) -> Option<Kinds>
-    ensures { option_map items result ≡ kinds_of word.now }
+// The kinds that at most N letters are.
+pub fn read_letters<const N: usize>(word: &[u8]) -> Option<Few<Kind, N>>
+    ensures { option_map items result ≡ letters_of N word.now }
 {
-    if word.is_empty() || MOST_COLUMNS < word.len() {
+    if N < word.len() {
         return None;
     }
-    let mut kinds = Kinds::new(Kind::Number);
+    let mut kinds = Few::new(Kind::Number);
     for letter in word {
         kinds.push(kind_of(*letter)?);
     }
     Some(kinds)
+}
+
+// The kinds that 1 to 6 letters are.
+pub fn read_kinds(word: &[u8]) -> Option<Kinds>
+    ensures { option_map items result ≡ kinds_of word.now }
+{
+    if word.is_empty() {
+        return None;
+    }
+    read_letters(word)
 }

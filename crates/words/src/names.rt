@@ -2,7 +2,7 @@
 ghost use Rattle.std.specs.List.{list_all};
 ghost use Rattle.std.specs.Prelude.{◌≡◌};
 ghost use Rattle.std.specs.Result.{result_ok};
-ghost use Rattle.words.specs.Name.{reserved as reserved_in, name_byte, is_name};
+ghost use Rattle.words.specs.Name.{FindsIn, reserved as reserved_in, name_byte, is_name};
 
 use std::str::{FromStr, from_utf8};
 
@@ -38,11 +38,20 @@ impl FromStr for Reserved {
     }
 }
 
+// What a word stands for in a type: nothing where the word is no text.
+pub fn find<T: FromStr>(word: &[u8]) -> Option<T>
+where
+    T::Err: Drop,
+ensures { FindsIn T.from_str_gives word.now result }
+{
+    from_utf8(word).ok()?.parse().ok()
+}
+
 // The reserved word that a word is, if it is one.
 pub fn find_reserved(word: &[u8]) -> Option<Reserved>
     ensures { result ≡ reserved_in word.now }
 {
-    from_utf8(word).ok()?.parse().ok()
+    find(word)
 }
 
 fn is_name_byte(b: u8) -> bool

@@ -6,7 +6,7 @@ use Rattle.std.proofs.lemmas.List.Folds.{list_all-map}
 use Rattle.words.specs.declared.reader.Word.{Word}
 use Rattle.words.specs.Words.{Cut}
 use Rattle.words.specs.Rest.{words_left}
-use Rattle.grammar.specs.Said.{column_at}
+use Rattle.takers.specs.Take.{column_at}
 use Rattle.grammar.proofs.tails.all_columns.Goals as goal
 
 pub returns : goal.returns
