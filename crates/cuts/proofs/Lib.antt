@@ -4,7 +4,6 @@ pub mod Writing
 pub mod Adding
 pub mod Keeping
 pub mod Comparing
-pub mod Picking
 pub mod Emitting
 pub mod Cutting
 pub mod Summing

@@ -4,7 +4,6 @@ ghost use Rattle.cuts.specs.Bests.{better, kept_at, kept_by_row, kept_by_rows};
 ghost use Rattle.cuts.specs.Days.{Rises};
 
 use crate::cuts::cut;
-use crate::picks::value_of;
 use relation::rows::Row;
 
 // Which of two values is kept. An enum: handed in as a closure, what is kept would be a relation in each contract below, and no value.
@@ -57,6 +56,6 @@ pub fn compare(group: &[Row], cuts: &mut [Row], c: usize, extreme: Extreme)
     ensures { cuts.new ≡ map (kept_by_rows extreme c group.now) cuts.old }
 {
     for row in group {
-        keep(cuts, row, value_of(&row.values, c), extreme);
+        keep(cuts, row, row.column(c), extreme);
     }
 }

@@ -4,7 +4,6 @@ ghost use Rattle.std.specs.List.{AllByRecursion as AllOf};
 ghost use Rattle.cuts.specs.Cuts.{cut_row, changed, cuts_of};
 ghost use Rattle.cuts.specs.Amounts.{Within};
 
-use crate::picks::value_of;
 use relation::rows::Row;
 use tallies::rules::Tally;
 
@@ -34,7 +33,7 @@ fn change_by(row: &Row, what: Tally) -> Change
         Tally::Count => Change { rows: 1, amount: 1 },
         Tally::Sum(c) => Change {
             rows: 1,
-            amount: value_of(&row.values, c),
+            amount: row.column(c),
         },
         Tally::Min(_) | Tally::Max(_) => Change { rows: 0, amount: 0 },
     }

@@ -1,9 +1,6 @@
-// Grouping columns, and the grouping values of a row.
-ghost use Rattle.std.specs.Prelude.{◌≡◌, ◌<◌, ◌≤◌, MatchOption, length, pos};
+// Grouping columns.
+ghost use Rattle.std.specs.Prelude.{◌≡◌, ◌<◌, ◌≤◌, MatchOption, length};
 ghost use Rattle.relation.specs.Bounds.{most_columns};
-ghost use Rattle.relation.specs.Operations.{picked};
-ghost use Rattle.relation.specs.Sets.{column};
-ghost use Rattle.relation.specs.Stored.{firsts};
 
 use relation::bounds::MOST_COLUMNS;
 
@@ -25,23 +22,4 @@ impl<'a> Grouping<'a> {
             None
         }
     }
-}
-
-// The value of column c, which counts from 1, and 0 past the last; column 0 is read as the first.
-pub fn value_of(values: &[i64; 6], c: usize) -> i64
-    ensures { result ≡ column c values.now }
-{
-    let at = c.saturating_sub(1);
-    if at < MOST_COLUMNS { values[at] } else { 0 }
-}
-
-// The values of the columns `by`, at most six of them, then zeros.
-pub fn pick(values: &[i64; 6], by: &[usize]) -> [i64; 6]
-    ensures { result ≡ firsts most_columns (picked by.now values.now) (pos 0) }
-{
-    let mut picks = [0; 6];
-    for (i, c) in by[..by.len().min(MOST_COLUMNS)].iter().enumerate() {
-        picks[i] = value_of(values, *c);
-    }
-    picks
 }

@@ -3,14 +3,14 @@ ghost use Rattle.std.specs.Prelude.{◌≡◌, ◌≤◌, length, take};
 ghost use Rattle.cuts.specs.Groups.{tuple_by};
 ghost use Rattle.cuts.specs.Stretches.{stretches_by};
 
-use crate::picks::{Grouping, pick};
+use crate::picks::Grouping;
 use relation::rows::Row;
 
 // The values of the group's row in the columns `by`, then the amount.
 fn tuple_by(group: &Row, by: Grouping, amount: i64) -> [i64; 6]
     ensures { result ≡ tuple_by group.now by.entry.columns.now amount }
 {
-    let mut values = pick(&group.values, by.columns);
+    let mut values = group.pick(by.columns);
     values[by.columns.len()] = amount;
     values
 }

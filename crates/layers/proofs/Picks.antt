@@ -2,8 +2,8 @@
 use Rattle.std.specs.List.{slice_get, list_all, enumerate_from, AllWithin, HoldsAt}
 use Rattle.std.specs.Option.{MatchOption, unwrap_or, option_map}
 use Rattle.std.proofs.lemmas.List.FromFn.{length-enumerate_from, get_or-enumerate_from}
-use Rattle.std.proofs.Common.{◌≡◌, ℕ, zero, suc, ◌+◌, ◌-◌, ◌<◌, ◌≤◌, true, leb, ◌≢◌, List, [], ◌∷◌, ◌++◌, map, length, get_or, take, set, pos, Some, None, Option, sym, refl, ap, ◌∙◌, subst, ap₂, ⊎_elim, arith}
-use Rattle.std.proofs.lemmas.List.{length-take, length-take-le, get_or-take, get_or-map, length-map, map-append, take_more}
+use Rattle.std.proofs.Common.{◌≡◌, ℕ, zero, suc, ◌+◌, ◌-◌, ◌<◌, ◌≤◌, true, leb, ◌≢◌, List, [], ◌∷◌, ◌++◌, map, length, get_or, take, pos, Some, None, Option, sym, refl, ap, ◌∙◌, subst, ap₂, ⊎_elim, arith}
+use Rattle.std.proofs.lemmas.List.{length-take-le, get_or-take, get_or-map}
 use Rattle.std.proofs.lemmas.Bool.{and_parts, cases_lt, le-leb, and_from}
 use Rattle.relation.specs.declared.kinds.Kind.TheVariants.{Number}
 use Rattle.relation.specs.declared.rows.Row.{Row}
@@ -26,14 +26,6 @@ use Rattle.layers.proofs.Stores.{column_stored}
 
 pub all_columns_lem : (n : ℕ) (cs : List ℕ) → 0 < length cs → length cs ≤ most_columns → list_all (is_column n) cs ≡ true → are_columns n cs ≡ true
 all_columns_lem n cs some few each = and_from (leb 1 (length cs)) _ (le-leb 1 (length cs) some) (and_from (leb (length cs) most_columns) _ (le-leb (length cs) most_columns few) each)
-
--- columns of a narrow source are columns of a wide one
-pub wider : (n m : ℕ) (cs : List ℕ) → n ≤ m → list_all (is_column n) cs ≡ true → list_all (is_column m) cs ≡ true
-wider n m [] h e = refl
-wider n m (c ∷ cs) h e =
-    let both = and_parts (is_column n c) (list_all (is_column n) cs) e in
-    let within = is_column_lem n c both.0 in
-    and_from (is_column m c) _ (and_from (leb 1 c) (leb c m) (le-leb 1 c within.0) (le-leb c m (omega (arith, within.1)))) (wider n m cs h both.1)
 
 -- the columns before the first that is out of its place
 module _ (cs : List ℕ) where
@@ -59,19 +51,6 @@ module _ (cs : List ℕ) where
       }
 
 -- ---- picked values
-
--- one more is written over the padding
-pub firsts_push : {X : Type 0} (n : ℕ) (xs : List X) (d v : X) (i : ℕ) → length xs ≡ i → i < n → set (firsts n xs d) i v ≡ firsts n (xs ++ v ∷ []) d
-firsts_push zero xs d v i e lt = absurd (omega arith)
-firsts_push (suc n) [] d v zero e lt = refl
-firsts_push (suc n) [] d v (suc i) e lt = absurd (omega arith)
-firsts_push (suc n) (x ∷ xs) d v zero e lt = absurd (omega arith)
-firsts_push (suc n) (x ∷ xs) d v (suc i) e lt = ap (λ l. x ∷ l) (firsts_push n xs d v i (omega arith) (omega arith))
-
-pub pick_more : (vs : Tuple) (cs : List ℕ) (i : ℕ) → i < length cs → i < most_columns → set (firsts most_columns (picked (take i cs) vs) (pos 0)) i (column (get_or cs i 0) vs) ≡ firsts most_columns (picked (take (i + 1) cs) vs) (pos 0)
-pick_more vs cs i lt few =
-    firsts_push most_columns (picked (take i cs) vs) (pos 0) (column (get_or cs i 0) vs) i (omega (arith, length-map (take i cs) (λ c. column c vs), length-take i cs)) few
-    ∙ ap (λ l. firsts most_columns l (pos 0)) (sym (ap (λ l. picked l vs) (take_more cs i 0 lt) ∙ map-append (λ c. column c vs) (take i cs) (get_or cs i 0 ∷ [])))
 
 cell_in : {X : Type 0} (xs : List X) (c : ℕ) (d : X) → 1 ≤ c → c ≤ length xs → cell xs c ≡ Some (get_or xs (c - 1) d)
 cell_in xs zero d h k = absurd (omega arith)

@@ -1,10 +1,6 @@
 // Columns chosen from those of a source. Columns count from 1.
-ghost use Rattle.std.specs.Prelude.{◌≡◌, ◌≤◌, true, false, length, pos, MatchOption};
+ghost use Rattle.std.specs.Prelude.{◌≡◌, true, false, length, MatchOption};
 ghost use Rattle.std.specs.List.{list_all};
-ghost use Rattle.relation.specs.Bounds.{most_columns};
-ghost use Rattle.relation.specs.Few.{items};
-ghost use Rattle.relation.specs.Stored.{firsts};
-ghost use Rattle.relation.specs.Operations.{picked};
 ghost use Rattle.source.specs.Meaning.{cell};
 ghost use Rattle.layers.specs.Columns.{is_column, are_columns, InPlace};
 
@@ -22,8 +18,6 @@ fn all_columns(columns: &[usize], last: usize) -> bool
 #[derive(Clone, Copy)]
 pub(crate) struct Columns {
     at: Few<usize, MOST_COLUMNS>,
-    // A row has room for each.
-    ghost in_rows: { list_all (is_column most_columns) (items at) ≡ true },
 }
 
 impl Columns {
@@ -31,7 +25,6 @@ impl Columns {
 
     // The columns, if there are one to six and each is one of the columns from 1 to `last`.
     pub(crate) fn new(columns: &[usize], last: usize) -> Option<Columns>
-        requires { last ≤ most_columns }
         ensures { MatchOption result (are_columns last columns.now ≡ false) (λ s. (are_columns last columns.now ≡ true) × (chosen s ≡ columns.now)) }
     {
         if columns.is_empty() || !all_columns(columns, last) {
@@ -54,15 +47,10 @@ impl Columns {
         self.at.get(c.checked_sub(1)?)
     }
 
-    // The values of the columns, then zeros.
-    pub(crate) fn pick(&self, values: &[i64; 6]) -> [i64; 6]
-        ensures { result ≡ firsts most_columns (picked (chosen self.now) values.now) (pos 0) }
+    pub(crate) fn as_slice(&self) -> &[usize]
+        ensures { result.now ≡ chosen self.now }
     {
-        let mut picks = [0; 6];
-        for (i, c) in self.at.as_slice().iter().enumerate() {
-            picks[i] = values[*c - 1];
-        }
-        picks
+        self.at.as_slice()
     }
 
     // How many columns from the first on are 1, 2 and so on.

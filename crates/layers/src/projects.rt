@@ -50,7 +50,7 @@ impl<S: Source> Source for Project<S> {
 
     fn row(&self, k: usize) -> Option<Row> {
         let row = self.source.row(k)?;
-        let values = self.columns.pick(&row.values);
+        let values = row.pick(self.columns.as_slice());
         Some(Row {
             first: row.first,
             end: row.end,

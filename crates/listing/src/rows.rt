@@ -1,5 +1,5 @@
 // The line of a row.
-ghost use Rattle.std.specs.Prelude.{◌≡◌, length, pos, slice_index_or};
+ghost use Rattle.std.specs.Prelude.{◌≡◌, length};
 ghost use Rattle.relation.specs.Stored.{meant};
 ghost use Rattle.relation.specs.Values.{word_text};
 ghost use Rattle.listing.specs.Text.{spelled, value_text, values_text, row_text};
@@ -9,13 +9,6 @@ use crate::sinks::Sink;
 use relation::kinds::Kind;
 use relation::rows::Row;
 use relation::values::word_text;
-
-// The value of a column, counted from 0: past the last, 0.
-fn value_at(row: &Row, column: usize) -> i64
-    ensures { result ≡ slice_index_or row.now.values column (pos 0) }
-{
-    row.values.get(column).copied().unwrap_or(0)
-}
 
 // The bytes of the word that the value is, if it is one.
 fn put_spelling<S: Sink>(sink: &mut S, value: i64)
@@ -47,7 +40,7 @@ fn put_values<S: Sink>(sink: &mut S, kinds: &[Kind], row: &Row)
     // Not a zip, which would end at the sixth value: a kind past it has 0.
     for (column, kind) in kinds.iter().enumerate() {
         sink.put(b" ");
-        put_value(sink, *kind, value_at(row, column));
+        put_value(sink, *kind, row.column(column + 1));
     }
 }
 

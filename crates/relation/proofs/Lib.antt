@@ -5,6 +5,7 @@ pub mod KindsTold
 pub mod ByteLoops
 pub mod EightBytes
 pub mod Firsts
+pub mod Picking
 pub mod TupleSets
 pub mod Held
 pub mod Clear

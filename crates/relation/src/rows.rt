@@ -1,6 +1,9 @@
 // Stored rows.
-ghost use Rattle.std.specs.Prelude.{◌≡◌};
-ghost use Rattle.relation.specs.Stored.{blank_row, stored, meant};
+ghost use Rattle.std.specs.Prelude.{◌≡◌, pos};
+ghost use Rattle.relation.specs.Bounds.{most_columns};
+ghost use Rattle.relation.specs.Operations.{picked};
+ghost use Rattle.relation.specs.Sets.{column};
+ghost use Rattle.relation.specs.Stored.{blank_row, firsts, stored, meant};
 
 use crate::bounds::MOST_COLUMNS;
 
@@ -36,5 +39,26 @@ impl Row {
             end: self.end,
             values,
         }
+    }
+
+    // The value of column c, which counts from 1, and 0 past the last; column 0 is read as the first.
+    pub fn column(&self, c: usize) -> i64
+        ensures { result ≡ column c self.now.values }
+    {
+        self.values.get(c.saturating_sub(1)).copied().unwrap_or(0)
+    }
+
+    // The values of the columns, at most six of them, then zeros.
+    pub fn pick(&self, columns: &[usize]) -> [i64; 6]
+        ensures { result ≡ firsts most_columns (picked columns.now self.now.values) (pos 0) }
+    {
+        let mut picks = [0; 6];
+        for (i, c) in columns[..columns.len().min(MOST_COLUMNS)]
+            .iter()
+            .enumerate()
+        {
+            picks[i] = self.column(*c);
+        }
+        picks
     }
 }

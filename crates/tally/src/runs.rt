@@ -9,7 +9,7 @@ ghost use Rattle.tally.specs.Gathered.{Together, Run};
 ghost use Rattle.tally.specs.Results.{Results};
 
 use cuts::groups::tally_group;
-use cuts::picks::{Grouping, pick};
+use cuts::picks::Grouping;
 use relation::rows::Row;
 use tallies::rules::Tally;
 use tree::Node;
@@ -19,11 +19,9 @@ fn group_end(rows: &[Row], by: Grouping, from: usize) -> usize
     requires some { from < length rows.now }
     ensures { Run by.entry.columns.now rows.now from result }
 {
-    let group = pick(&rows[from].values, by.columns);
+    let group = rows[from].pick(by.columns);
     let left = &rows[from..];
-    let more = left
-        .iter()
-        .position(|row| pick(&row.values, by.columns) != group);
+    let more = left.iter().position(|row| row.pick(by.columns) != group);
     from + more.unwrap_or(left.len())
 }
 

@@ -11,8 +11,8 @@ keep-requires c = compared_rises c.args.extreme c.args.c c.args.group.now c.args
 
 pub loop-row-preserved : goal.loop-row-preserved
 loop-row-preserved c =
-    let fits : SFits w64 c.value_of.result = search rules in
-    compared_more c.args.extreme c.args.c c.args.group.now c.args.cuts.now c.loop-row.row-index c.loop-row.cuts c.keep.new.cuts _ (omega arith) c.loop-row.invariant (to_z-of_z w64 _ fits ∙ c.value_of.ensures) c.keep.ensures
+    let fits : SFits w64 c.column.result = search rules in
+    compared_more c.args.extreme c.args.c c.args.group.now c.args.cuts.now c.loop-row.row-index c.loop-row.cuts c.keep.new.cuts _ (omega arith) c.loop-row.invariant (to_z-of_z w64 _ fits ∙ c.column.ensures) c.keep.ensures
 
 pub returns : goal.returns
 returns c = compared_all c.args.extreme c.args.c c.args.group.now c.args.cuts.now c.loop-row.row-index _ (omega arith) c.loop-row.invariant

@@ -1,11 +1,10 @@
-use Rattle.std.proofs.Common.{◌≡◌, length, set, pos, sym, ap, ◌∙◌, ap₂, arith, w64}
+use Rattle.std.proofs.Common.{◌≡◌, length, set, pos, ◌∙◌, ap₂, arith, w64}
 use lib.ListN.{length-map}
 use Rattle.std.proofs.lemmas.Int.{to_z-of_z}
 use Rattle.relation.specs.Bounds.{most_columns}
 use Rattle.relation.specs.Operations.{picked}
 use Rattle.relation.specs.Sets.{column}
-use Rattle.relation.specs.Stored.{firsts}
-use Rattle.cuts.proofs.Picking.{set_behind}
+use Rattle.relation.proofs.Picking.{firsts_push}
 use Rattle.cuts.proofs.stretches.tuple_by.Goals as goal
 
 pub returns : goal.returns
@@ -14,5 +13,4 @@ returns c =
     let vs = picked by c.args.group.now.values in
     let long : length vs ≡ length by = length-map by (λ k. column k c.args.group.now.values) in
     ap₂ (λ us z. set us (length by) z) c.pick-values.ensures (to_z-of_z w64 c.args.amount c.ranges.amount)
-    ∙ ap (λ k. set (firsts most_columns vs (pos 0)) k c.args.amount) (sym long)
-    ∙ set_behind most_columns vs c.args.amount (pos 0) (omega (arith, c.args.by.few))
+    ∙ firsts_push most_columns vs (pos 0) c.args.amount (length by) long (omega (arith, c.args.by.few))

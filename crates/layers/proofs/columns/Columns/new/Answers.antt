@@ -1,17 +1,7 @@
-use Rattle.std.proofs.Common.{sym, ◌∙◌, ap, arith}
+use Rattle.std.proofs.Common.{sym, ◌∙◌, arith}
 use Rattle.std.proofs.lemmas.Bool.{eqb-false}
-use Rattle.std.specs.List.{list_all}
-use Rattle.relation.specs.Bounds.{most_columns}
-use Rattle.layers.specs.Columns.{is_column}
-use Rattle.layers.proofs.Picks.{all_columns_lem, wider}
+use Rattle.layers.proofs.Picks.{all_columns_lem}
 use Rattle.layers.proofs.columns.Columns.new.Goals as goal
-
-pub invariant_of-result : goal.invariant_of-result
-invariant_of-result c = record {
-  in_rows =
-      ap (list_all (is_column most_columns)) c.in_ok-at.ensures.1
-      ∙ wider c.args.last most_columns c.args.columns.now c.requires (sym c.all_columns.ensures ∙ c.if-not-all_columns.false);
-}
 
 pub returns : goal.returns
 returns c = (

@@ -2,7 +2,7 @@ use Rattle.std.proofs.Common.{◌≡◌, take, pos}
 use Rattle.relation.specs.Bounds.{most_columns}
 use Rattle.relation.specs.Operations.{picked}
 use Rattle.relation.specs.Stored.{firsts}
-use Rattle.cuts.proofs.picks.pick.Given as goal
+use Rattle.relation.proofs.rows.Row.pick.Given as goal
 
 abbrev pub invariant-loop-i : goal.invariant-loop-i
-invariant-loop-i l = l.picks ≡ firsts most_columns (picked (take l.i l.c-items) l.values) (pos 0)
+invariant-loop-i l = l.picks ≡ firsts most_columns (picked (take l.i l.c-items) l.self.values) (pos 0)

@@ -7,10 +7,12 @@ use Rattle.relation.specs.Operations.{picked}
 use Rattle.relation.specs.Stored.{firsts}
 
 -- one element more is written over the padding
-pub set_behind : {X : Type 0} (n : ℕ) (xs : List X) (y d : X) → length xs < n → set (firsts n xs d) (length xs) y ≡ firsts n (xs ++ (y ∷ [])) d
-set_behind zero xs y d h = absurd (omega arith)
-set_behind (suc n) [] y d h = refl
-set_behind (suc n) (x ∷ xs) y d h = ap (λ ys. x ∷ ys) (set_behind n xs y d (omega arith))
+pub firsts_push : {X : Type 0} (n : ℕ) (xs : List X) (d v : X) (i : ℕ) → length xs ≡ i → i < n → set (firsts n xs d) i v ≡ firsts n (xs ++ v ∷ []) d
+firsts_push zero xs d v i e lt = absurd (omega arith)
+firsts_push (suc n) [] d v zero e lt = refl
+firsts_push (suc n) [] d v (suc i) e lt = absurd (omega arith)
+firsts_push (suc n) (x ∷ xs) d v zero e lt = absurd (omega arith)
+firsts_push (suc n) (x ∷ xs) d v (suc i) e lt = ap (λ l. x ∷ l) (firsts_push n xs d v i (omega arith) (omega arith))
 
 -- the first n do not see what is cut off behind them
 pub firsts_take : {X : Type 0} (n k : ℕ) (xs : List X) (d : X) → min (length xs) n ≤ k → firsts n (take k xs) d ≡ firsts n xs d
@@ -25,8 +27,7 @@ module _ (n : ℕ) (by : List ℕ) (t : Tuple) where
   picked_more i vs z lt few e is =
       let long : length (picked (take i by) t) ≡ i = length-map (take i by) (λ c. column c t) ∙ length-take-le i by (omega arith) in
       ap₂ (λ us x. set us i x) e is
-      ∙ ap (λ k. set (firsts n (picked (take i by) t) (pos 0)) k (column (get_or by i 0) t)) (sym long)
-      ∙ set_behind n (picked (take i by) t) (column (get_or by i 0) t) (pos 0) (omega arith)
+      ∙ firsts_push n (picked (take i by) t) (pos 0) (column (get_or by i 0) t) i long few
       ∙ ap (λ us. firsts n us (pos 0)) (sym (map_more (λ c. column c t) by i 0 lt))
 
   pub picked_all : (i : ℕ) → min (length by) n ≤ i → firsts n (picked (take i by) t) (pos 0) ≡ firsts n (picked by t) (pos 0)
