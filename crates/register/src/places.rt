@@ -1,5 +1,5 @@
 // Where things lie in a directory and in the rows.
-ghost use Rattle.std.specs.Prelude.{◌≡◌, ◌+◌, ◌-◌, ◌<◌, ◌≤◌, ◌∷◌, ◌++◌, length, take, drop, replicate};
+ghost use Rattle.std.specs.Prelude.{◌≡◌, ◌-◌, ◌<◌, ◌≤◌, ◌∷◌, ◌++◌, length, take, drop, replicate};
 ghost use Rattle.relation.specs.Stored.{blank_row};
 ghost use Rattle.relation.specs.Bounds.{most_stored};
 ghost use Rattle.register.specs.Layout.{total, first_free, Finds};
@@ -38,7 +38,7 @@ pub fn start(entries: &[Entry], i: usize) -> usize
     sum(&entries[..i])
 }
 
-// Writes the row before the others, which move on by one, over the last.
+// Writes the row before the others, and moves these on by one, over the last, which is free.
 pub fn open(rows: &mut [Row], row: Row)
     requires { 0 < length rows.old }
     ensures { rows.new ≡ row ∷ take (length rows.old - 1) rows.old }

@@ -65,12 +65,8 @@ mod tests {
     }
 
     fn all_blank(rt: &impl Abort, rows: &[Row], index: &[Node]) -> Result<(), Fail> {
-        for row in rows {
-            assert_eq!(rt; row, &Row::blank());
-        }
-        for node in index {
-            assert_eq!(rt; node, &Node::blank());
-        }
+        assert!(rt; rows.iter().all(|row| *row == Row::blank()));
+        assert!(rt; index.iter().all(|node| *node == Node::blank()));
         Ok(())
     }
 
