@@ -42,7 +42,7 @@ impl FromStr for Reserved {
 pub fn find<T: FromStr>(word: &[u8]) -> Option<T>
 where
     T::Err: Drop,
-ensures { FindsIn T.from_str_gives word.now result }
+    ensures { FindsIn T.from_str_gives word.now result }
 {
     from_utf8(word).ok()?.parse().ok()
 }
