@@ -16,7 +16,7 @@ pub const MOST_BYTES: usize = 16_384;
 
 pub const MOST_LINES: usize = 256;
 
-// The line at which the load began that is open after line `n`, if line `n` may stand where it does.
+// After line `n`: no place in the language, or the line at which the load began that is open then, if one is.
 fn next_load(n: usize, load: Option<usize>, line: Line) -> Option<Option<usize>>
     ensures { result ≡ stands n load (says line.entry) }
 {
