@@ -50,10 +50,13 @@ impl<S: Source> Source for Window<S> {
 
     fn row(&self, k: usize) -> Option<Row> {
         let row = self.source.row(k)?;
-        let first = self.days.first.max(row.first);
-        let end = self.days.end.min(row.end);
+        let days = self.days.meet(row.into())?;
         let values = row.values;
-        (first < end).then_some(Row { first, end, values })
+        Some(Row {
+            first: days.first,
+            end: days.end,
+            values,
+        })
     }
 
     fn seek(&self, k: usize, lead: &[i64]) -> usize {

@@ -12,6 +12,19 @@ pub struct Span {
     pub end: u32,
 }
 
+impl Span {
+    ghost use Rattle.relation.specs.Days.{shared};
+
+    // The days that both spans have, if there is one.
+    pub fn meet(self, other: Span) -> Option<Span>
+        ensures { result ≡ shared self other }
+    {
+        let first = self.first.max(other.first);
+        let end = self.end.min(other.end);
+        (first < end).then_some(Span { first, end })
+    }
+}
+
 // The days of a row.
 impl From<Row> for Span {
     ghost use Rattle.relation.specs.Days.{days_of};
