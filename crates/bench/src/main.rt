@@ -78,6 +78,7 @@ fn joined(a: &[Row], b: &[Row], work: &mut Workspace) -> Result<usize, Refusal> 
 }
 
 // Prints a job's row count, and where times are wanted how long it took.
+// A flag: it says which of two lines is printed, once, and a type for that would be read back into one here.
 fn report(
     rt: &HostRuntime,
     job: &str,

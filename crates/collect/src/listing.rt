@@ -15,7 +15,7 @@ use tree::Node;
 
 // Leaves the canonical list of the first `n` rows at the start of `rows`, blanks the other rows and all index
 // entries, and answers the number of rows. It does not ask how many columns the rows have: it is the list of
-// their day sets at every number of columns past which all values are 0.
+// their day sets at every number of columns past which all values are 0. It takes the whole area and how many are rows, since it blanks the rest.
 pub fn list_rows(rows: &mut [Row], index: &mut [Node], n: usize) -> usize
     requires wide { n ≤ length rows.old }
     requires room { n ≤ length index.old }

@@ -109,16 +109,20 @@ impl Work {
             Ok(count) => {
                 println!(rt; "{name}: {count} rows")?;
                 for row in self.rows.iter().take(count) {
-                    for value in row.values.iter().take(columns) {
-                        print!(rt; "{value} ")?;
-                    }
-                    println!(rt; "from {} to {}", row.first, row.end)?;
+                    print_row(rt, row, columns)?;
                 }
                 Ok(())
             }
             Err(refusal) => println!(rt; "{name}: refused {}", refusal.reason.number()),
         }
     }
+}
+
+fn print_row(rt: &HostRuntime, row: &Row, columns: usize) -> io::Result<()> {
+    for value in row.values.iter().take(columns) {
+        print!(rt; "{value} ")?;
+    }
+    println!(rt; "from {} to {}", row.first, row.end)
 }
 
 fn main(rt: HostRuntime) -> io::Result<()> {

@@ -31,7 +31,7 @@ impl Watches {
         Ok(Watches { count })
     }
 
-    // The first day of the watch at place k.
+    // The first day of the watch at place k. No `then_some`: the product is in bounds only where the test holds.
     fn day(&self, k: usize) -> Option<u32>
         ensures { result ≡ first_of (watches self.now.count) k }
     {

@@ -12,7 +12,7 @@ pub struct Grouping<'a> {
 }
 
 impl<'a> Grouping<'a> {
-    // Groups by these columns, if they are few enough.
+    // Groups by these columns, if they are few enough. No `then_some`: the value can be made only where the test holds.
     pub fn new(columns: &'a [usize]) -> Option<Grouping<'a>>
         ensures { MatchOption result (most_columns ≤ length columns.now) (λ by. by.columns.now ≡ columns.now) }
     {

@@ -131,6 +131,21 @@ impl fmt::Display for TallyText<'_> {
     }
 }
 
+// A new relation and the two that it is made of.
+#[derive(Clone, Copy)]
+struct BothText<'a> {
+    new: &'a str,
+    a: Operand<'a>,
+    b: Operand<'a>,
+}
+
+impl fmt::Display for BothText<'_> {
+    fn fmt<W: fmt::Write>(&self, f: &mut fmt::Formatter<W>) -> fmt::Result {
+        let (a, b) = (OperandText(self.a), OperandText(self.b));
+        write!(f, "{} of {a} and {b}", self.new)
+    }
+}
+
 #[derive(Clone, Copy)]
 struct QueryText<'a> {
     new: &'a str,
@@ -154,31 +169,12 @@ impl fmt::Display for QueryText<'_> {
                 let on = ColumnsText { before, columns };
                 write!(f, "project {new} of {}{on}", OperandText(a))
             }
-            Query::Union(a, b) => {
-                write!(
-                    f,
-                    "union {new} of {} and {}",
-                    OperandText(a),
-                    OperandText(b)
-                )
-            }
-            Query::Except(a, b) => {
-                write!(
-                    f,
-                    "except {new} of {} and {}",
-                    OperandText(a),
-                    OperandText(b)
-                )
-            }
+            Query::Union(a, b) => write!(f, "union {}", BothText { new, a, b }),
+            Query::Except(a, b) => write!(f, "except {}", BothText { new, a, b }),
             Query::Join(a, b, columns) => {
                 let before = "on";
                 let on = ColumnsText { before, columns };
-                write!(
-                    f,
-                    "join {new} of {} and {}{on}",
-                    OperandText(a),
-                    OperandText(b)
-                )
+                write!(f, "join {}{on}", BothText { new, a, b })
             }
             Query::Tally(tally, a, columns) => {
                 let before = "by";

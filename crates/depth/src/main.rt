@@ -11,7 +11,7 @@ use tree::{Keys, Node, Tree};
 
 const COUNT: u32 = 65_536;
 
-// The order that days come in.
+// The order that days come in. An enum, since it is printed as well as asked for its days.
 #[derive(Clone, Copy)]
 enum Arrival {
     Ascending,

@@ -76,41 +76,23 @@ fn main(rt: HostRuntime) -> io::Result<()> {
         days: Span { first: 6, end: 9 },
         columns: &[2, 1, 2],
     };
-    print_listed(&rt, question)?;
     let missing = Condition {
         column: 3,
         ..condition
     };
-    print_listed(
-        &rt,
-        Question {
-            condition: missing,
-            ..question
-        },
-    )?;
     let large = Condition {
         term: Term::Number(1_000_000_000_001),
         ..condition
     };
-    print_listed(
-        &rt,
-        Question {
-            condition: large,
-            ..question
-        },
-    )?;
-    print_listed(
-        &rt,
-        Question {
-            days: Span { first: 6, end: 6 },
-            ..question
-        },
-    )?;
-    print_listed(
-        &rt,
-        Question {
-            columns: &[],
-            ..question
-        },
-    )
+    let questions = [
+        question,
+        Question { condition: missing, ..question },
+        Question { condition: large, ..question },
+        Question { days: Span { first: 6, end: 6 }, ..question },
+        Question { columns: &[], ..question },
+    ];
+    for question in questions {
+        print_listed(&rt, question)?;
+    }
+    Ok(())
 }

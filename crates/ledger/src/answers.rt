@@ -59,3 +59,16 @@ impl From<Refusal> for Failure {
         Failure::Refused(refusal)
     }
 }
+
+// Bytes as text, each of them a character: a line may be typed that is no UTF-8.
+#[derive(Clone, Copy)]
+pub struct Typed<'a>(pub &'a [u8]);
+
+impl fmt::Display for Typed<'_> {
+    fn fmt<W: fmt::Write>(&self, f: &mut fmt::Formatter<W>) -> fmt::Result {
+        for b in self.0 {
+            f.write_char(*b as char)?;
+        }
+        Ok(())
+    }
+}

@@ -1,7 +1,7 @@
 // Each command as a call of a register, which goes on from what it had.
 ghost use Rattle.ledger.specs.Histories.{GoesOn};
 
-use crate::answers::{Answer, Failure};
+use crate::answers::{Answer, Failure, Typed};
 use crate::commands::Command;
 use crate::desk::{Paper, Which, find, lay};
 use register::registers::Register;
@@ -46,9 +46,8 @@ impl Areas {
     // Prints the text that a call wrote.
     pub fn print_shown(&self, rt: &HostRuntime, answer: Answer) -> anyhow::Result<()> {
         if let Answer::Bytes(count) = answer {
-            for b in self.output.as_slice().iter().take(count) {
-                print!(rt; "{}", *b as char)?;
-            }
+            let shown = self.output.as_slice().get(..count).unwrap_or(&[]);
+            print!(rt; "{}", Typed(shown))?;
         }
         Ok(())
     }

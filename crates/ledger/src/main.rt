@@ -9,7 +9,7 @@ mod commands;
 mod desk;
 mod workshop;
 
-use answers::{Answer, Failure};
+use answers::{Answer, Failure, Typed};
 use relation::rows::Row;
 use std::io::Read;
 use takers::tails::is_blank;
@@ -25,12 +25,10 @@ fn print_answer(
     line: &[u8],
     answer: Result<Answer, Failure>,
 ) -> anyhow::Result<()> {
-    for b in line {
-        print!(rt; "{}", *b as char)?;
-    }
+    let line = Typed(line);
     match answer {
-        Ok(done) => println!(rt; ": {done}")?,
-        Err(failure) => println!(rt; ": {failure}")?,
+        Ok(done) => println!(rt; "{line}: {done}")?,
+        Err(failure) => println!(rt; "{line}: {failure}")?,
     }
     Ok(())
 }

@@ -53,10 +53,10 @@ impl<'r, 'a> Workshop<'r, 'a> {
         rt: &HostRuntime,
         answer: Result<Answer, Failure>,
     ) -> anyhow::Result<()> {
-        match answer {
-            Ok(done) => self.bench.areas.print_shown(rt, done),
-            Err(_) => Ok(()),
+        if let Ok(done) = answer {
+            self.bench.areas.print_shown(rt, done)?;
         }
+        Ok(())
     }
 
     // Abandons every slip that is left, and answers how many.

@@ -1,4 +1,4 @@
-// Numbers in plain decimal.
+// Numbers in plain decimal, by hand: they go into any sink, whose contract says which bytes; which bytes a formatter is given is not said.
 ghost use Rattle.std.specs.Prelude.{◌≡◌, ◌+◌, ◌<◌, [], ◌∷◌, decimal};
 ghost use Rattle.std.specs.Fmt.{signed_decimal};
 ghost use Rattle.listing.specs.Text.{sign};

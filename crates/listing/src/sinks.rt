@@ -33,7 +33,8 @@ impl Sink for Room {
     }
 }
 
-// Lent bytes, and where the next part begins. What does not fit is not written.
+// Lent bytes, and where the next part begins. What does not fit is not written. A place and no rest of the bytes: contracts say what all
+// of them hold, those written before too.
 #[derive(Drop)]
 pub(crate) struct Output<'a> {
     pub(crate) bytes: &'a mut [u8],

@@ -12,7 +12,7 @@ mod tests {
     use words::numbers::signed;
     use words::reader::{Word, Words};
 
-    // The number of the reason why a header is refused, or 0.
+    // The number of the reason why a header is refused, or 0. The rules give a refusal by its number, and the examples here do.
     fn header(line: &[u8]) -> u32 {
         read_header(line).map_or_else(|reason| reason.number(), |_| 0)
     }

@@ -68,7 +68,9 @@ fn ask_uncovered<H: Source + Drop, C: Source + Drop, V: Source + Drop>(
     Window::new(joined, days)
 }
 
-// Each list is made in two areas that the caller lends, and reads just the sources that it needs.
+// Each list is made in two areas that the caller lends, and reads just the sources that it needs. The three sources are of three types,
+// and each call takes only some: a struct of them would be made for one call and taken apart in it. A list is a function for each
+// question, since each ends in a layer of another type.
 
 // Lists the instruments that were out.
 pub fn list_out<H: Source + Drop>(

@@ -21,7 +21,7 @@ mod tests {
         }
     }
 
-    // The number of the refusal, and 0 where there is none.
+    // The number of the refusal, and 0 where there is none: the rules give a refusal by its number.
     fn refused(r: Result<usize, Refusal>) -> u32 {
         r.err().map_or(0, |refusal| refusal.reason.number())
     }

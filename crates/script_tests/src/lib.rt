@@ -10,6 +10,7 @@ mod tests {
     use script::script::CheckedScript;
 
     // The number of the refusal and its line, as ten times the line and the number, or 0.
+    // Numbers, since the rules give a refusal by its number and the examples are taken from there.
     fn refusal(text: &[u8]) -> usize {
         let mut script = CheckedScript::new();
         match check(text, &mut script) {

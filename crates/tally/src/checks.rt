@@ -22,7 +22,7 @@ fn has_measured<S: Source>(source: &S, what: Tally) -> bool
 {
     match what {
         Tally::Count => true,
-        Tally::Sum(c) => matches!(source.kind(c), Some(Kind::Number)),
+        Tally::Sum(c) => source.kind(c) == Some(Kind::Number),
         Tally::Min(c) | Tally::Max(c) => source.kind(c).is_some(),
     }
 }

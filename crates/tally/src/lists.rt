@@ -32,7 +32,7 @@ fn blank_all(rows: &mut [Row], index: &mut [Node])
 }
 
 // Tallies the first `n` rows, which are the canonical list of some sets: leaves the canonical list of the tallied sets at the start of
-// `rows`, blanks all else, and answers the number of rows. Where a sum lies outside kind n it is refused and blanks both areas.
+// `rows`, blanks all else, and answers the number of rows. It takes the whole areas, since it works behind the first rows. Where a sum lies outside kind n it is refused and blanks both areas.
 pub fn tally_list(
     rows: &mut [Row],
     index: &mut [Node],

@@ -3,6 +3,7 @@ ghost use Rattle.std.specs.Prelude.{◌≡◌, ◌^◌, ◌<◌, IfSome, Some};
 ghost use Rattle.words.specs.Number.{natural, minus, number};
 
 // The number that 1 to 13 digits write, the first of several not 0.
+// By hand: `parse` takes a plus sign and zeros in front, which write no number here.
 fn digits(ds: &[u8]) -> Option<u64>
     ensures value { result ≡ natural ds.now }
     ensures bound { IfSome result (λ n. n < 10 ^ 13) }

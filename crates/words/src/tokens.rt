@@ -8,7 +8,7 @@ use crate::numbers::signed;
 use relation::conditions::Sign;
 use relation::values::is_word;
 
-// What a word would be where it could be a name or a column.
+// What a word would be where it could be a name or a column. An enum and no closure: contracts say a token by its position.
 #[derive(Clone, Copy, Drop)]
 pub enum Position {
     Name,
@@ -55,6 +55,7 @@ fn read_column<'a>(word: &'a [u8]) -> Option<Token<'a>>
     }
 }
 
+// Signs of one byte and of two, a function each, as the rules have them: a match on one char.
 fn short_sign(b: u8) -> Option<Sign>
     ensures { result ≡ short_sign b }
 {
