@@ -65,31 +65,45 @@ fn print_listed(rt: &HostRuntime, question: Question<'_>) -> io::Result<()> {
     }
 }
 
+// The first column holds 7.
+const CONDITION: Condition = Condition {
+    column: 1,
+    sign: Sign::Equal,
+    term: Term::Number(7),
+};
+
 fn main(rt: HostRuntime) -> io::Result<()> {
-    let condition = Condition {
-        column: 1,
-        sign: Sign::Equal,
-        term: Term::Number(7),
-    };
     let question = Question {
-        condition,
+        condition: CONDITION,
         days: Span { first: 6, end: 9 },
         columns: &[2, 1, 2],
     };
     let missing = Condition {
         column: 3,
-        ..condition
+        ..CONDITION
     };
     let large = Condition {
         term: Term::Number(1_000_000_000_001),
-        ..condition
+        ..CONDITION
     };
     let questions = [
         question,
-        Question { condition: missing, ..question },
-        Question { condition: large, ..question },
-        Question { days: Span { first: 6, end: 6 }, ..question },
-        Question { columns: &[], ..question },
+        Question {
+            condition: missing,
+            ..question
+        },
+        Question {
+            condition: large,
+            ..question
+        },
+        Question {
+            days: Span { first: 6, end: 6 },
+            ..question
+        },
+        Question {
+            columns: &[],
+            ..question
+        },
     ];
     for question in questions {
         print_listed(&rt, question)?;
