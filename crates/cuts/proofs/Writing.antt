@@ -7,10 +7,10 @@ use Rattle.tallies.specs.declared.rules.Tally.{Tally}
 use Rattle.cuts.specs.Cuts.{opened, closed, cuts_of}
 
 -- one more behind what has been written
-written : {X : Type 0} (e p : List X) (n : ℕ) (a d : X) → length p ≡ n → n < length e → set (p ++ drop n e) n a ≡ (p ++ (a ∷ [])) ++ drop (n + 1) e
+pub written : {X : Type 0} (e p : List X) (n : ℕ) (a d : X) → length p ≡ n → n < length e → set (p ++ drop n e) n a ≡ (p ++ (a ∷ [])) ++ drop (n + 1) e
 written e p n a d long lt = ap (λ t. set (p ++ t) n a) (drop_more e n d lt) ∙ set_at p (get_or e n d) (drop (n + 1) e) a n long ∙ sym (append_assoc p (a ∷ []) (drop (n + 1) e))
 
-cuts_append : (m : Tally) (ws us : List Row) → cuts_of m (ws ++ us) ≡ cuts_of m ws ++ cuts_of m us
+pub cuts_append : (m : Tally) (ws us : List Row) → cuts_of m (ws ++ us) ≡ cuts_of m ws ++ cuts_of m us
 cuts_append m [] us = refl
 cuts_append m (w ∷ ws) us = ap (λ t. opened m w ∷ closed m w ∷ t) (cuts_append m ws us)
 

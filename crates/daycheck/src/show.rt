@@ -194,7 +194,7 @@ impl fmt::Display for LineText<'_> {
         match self.0 {
             Line::Skip => Ok(()),
             Line::Load(name, kinds) => {
-                let letters = KindLetters(kinds.as_slice());
+                let letters = KindLetters(kinds);
                 write!(f, "load {} of kinds {letters}", shown(name))
             }
             Line::Row(parts) => {

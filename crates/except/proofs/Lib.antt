@@ -1,3 +1,4 @@
+pub mod Alike
 pub mod Tupled
 pub mod Scanned
 pub mod Pieces

@@ -27,10 +27,14 @@ impl Columns {
     pub(crate) fn new(columns: &[usize], last: usize) -> Option<Columns>
         ensures { MatchOption result (are_columns last columns.now ≡ false) (λ s. (are_columns last columns.now ≡ true) × (chosen s ≡ columns.now)) }
     {
-        if columns.is_empty() || !all_columns(columns, last) {
+        if columns.is_empty() {
             return None;
         }
+        // Before the columns are looked at, so that too many are refused at once.
         let at = Few::from_slice(columns, 0)?;
+        if !all_columns(columns, last) {
+            return None;
+        }
         Some(Columns { at })
     }
 

@@ -38,7 +38,7 @@ left_both p q r s t one two = two ∙ ap (λ o. left_of o t) one ∙ left_in_two
 
 -- ---- the bytes
 
-written_nothing : (bs : List ℕ) (at : ℕ) → written bs at [] ≡ bs
+pub written_nothing : (bs : List ℕ) (at : ℕ) → written bs at [] ≡ bs
 written_nothing bs at = let e : at + 0 ≡ at = omega arith in ap (λ k. take at bs ++ drop k bs) e ∙ take-append-drop at bs
 
 -- what is written, with all before it in front

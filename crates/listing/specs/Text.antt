@@ -53,9 +53,13 @@ values_text [] zs = []
 values_text (k ∷ ks) [] = []
 values_text (k ∷ ks) (z ∷ zs) = (space ∷ value_text k z) ++ values_text ks zs
 
--- FROM UNTIL VALUE ..
+-- FROM UNTIL VALUE .., without the end of the line
+abbrev pub line_text : List Kind → SpecRow → List ℕ
+line_text kinds row = decimal row.first ++ (space ∷ []) ++ decimal row.end ++ values_text kinds row.tuple
+
+-- the line of a row
 abbrev pub row_text : List Kind → SpecRow → List ℕ
-row_text kinds row = decimal row.first ++ (space ∷ []) ++ decimal row.end ++ values_text kinds row.tuple ++ (line_end ∷ [])
+row_text kinds row = line_text kinds row ++ (line_end ∷ [])
 
 -- ---- the whole
 

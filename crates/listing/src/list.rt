@@ -4,9 +4,8 @@ ghost use Rattle.std.specs.List.{flat_map};
 ghost use Rattle.relation.specs.Stored.{meant};
 ghost use Rattle.listing.specs.Text.{letter, header_text, row_text, list_text, Writes};
 
-use crate::numbers::put_decimal;
 use crate::rows::put_row;
-use crate::sinks::{Output, Room, Sink};
+use crate::sinks::{NumberSink, Output, Room, Sink};
 use relation::kinds::Kind;
 use relation::refusals::{Reason, Refusal};
 use relation::rows::Row;
@@ -31,18 +30,18 @@ pub(crate) fn put_letters<S: Sink>(sink: &mut S, kinds: &[Kind])
 }
 
 // NAME KINDS ROWS
-fn put_header<S: Sink>(sink: &mut S, name: &[u8], kinds: &[Kind], count: usize)
+fn put_header<S: NumberSink>(sink: &mut S, name: &[u8], kinds: &[Kind], count: usize)
     ensures { S.takes sink.old (header_text name.now kinds.now count) sink.new }
 {
     sink.put(name);
     sink.put(b" ");
     put_letters(sink, kinds);
     sink.put(b" ");
-    put_decimal(sink, count as u64);
+    sink.put_decimal(count as u64);
     sink.put(b"\n");
 }
 
-fn put_rows<S: Sink>(sink: &mut S, kinds: &[Kind], rows: &[Row])
+fn put_rows<S: NumberSink>(sink: &mut S, kinds: &[Kind], rows: &[Row])
     ensures { S.takes sink.old (flat_map (row_text kinds.now) (map (meant (length kinds.now)) rows.now)) sink.new }
 {
     for row in rows {
@@ -51,7 +50,7 @@ fn put_rows<S: Sink>(sink: &mut S, kinds: &[Kind], rows: &[Row])
 }
 
 // The whole text.
-pub(crate) fn put_list<S: Sink>(sink: &mut S, name: &[u8], kinds: &[Kind], rows: &[Row])
+pub(crate) fn put_list<S: NumberSink>(sink: &mut S, name: &[u8], kinds: &[Kind], rows: &[Row])
     ensures { S.takes sink.old (list_text name.now kinds.now (map (meant (length kinds.now)) rows.now)) sink.new }
 {
     put_header(sink, name, kinds, rows.len());

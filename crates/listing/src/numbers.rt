@@ -3,7 +3,7 @@ ghost use Rattle.std.specs.Prelude.{◌≡◌, ◌+◌, ◌<◌, [], ◌∷◌, 
 ghost use Rattle.std.specs.Fmt.{signed_decimal};
 ghost use Rattle.listing.specs.Text.{sign};
 
-use crate::sinks::Sink;
+use crate::sinks::{NumberSink, Sink};
 
 fn put_digit<S: Sink>(sink: &mut S, digit: u64)
     requires { digit < 10 }
@@ -12,13 +12,13 @@ fn put_digit<S: Sink>(sink: &mut S, digit: u64)
     sink.put(&[b'0' + digit as u8]);
 }
 
-pub(crate) fn put_decimal<S: Sink>(sink: &mut S, n: u64)
+pub(crate) fn put_digits<S: Sink>(sink: &mut S, n: u64)
     ensures { S.takes sink.old (decimal n) sink.new }
 {
     if n < 10 {
         put_digit(sink, n);
     } else {
-        put_decimal(sink, n / 10);
+        put_digits(sink, n / 10);
         put_digit(sink, n % 10);
     }
 }
@@ -32,9 +32,9 @@ fn put_sign<S: Sink>(sink: &mut S, z: i64)
     }
 }
 
-pub(crate) fn put_number<S: Sink>(sink: &mut S, z: i64)
+pub(crate) fn put_number<S: NumberSink>(sink: &mut S, z: i64)
     ensures { S.takes sink.old (signed_decimal z) sink.new }
 {
     put_sign(sink, z);
-    put_decimal(sink, z.unsigned_abs());
+    sink.put_decimal(z.unsigned_abs());
 }

@@ -2,8 +2,9 @@
 ghost use Rattle.std.specs.Prelude.{⊤};
 
 use crate::list::{put_letters, put_list};
-use crate::rows::put_value;
-use crate::sinks::Sink;
+use crate::rows::{put_line, put_value};
+use crate::sinks::{NumberSink, Sink};
+use relation::columns::Kinds;
 use relation::kinds::Kind;
 use relation::rows::Row;
 use std::fmt;
@@ -40,14 +41,23 @@ impl<W: fmt::Write> Sink for Shown<'_, W> {
     }
 }
 
+// By the library, which hands all digits over at once.
+impl<W: fmt::Write> NumberSink for Shown<'_, W> {
+    fn put_decimal(&mut self, n: u64) {
+        if self.result.is_ok() {
+            self.result = write!(self.formatter, "{n}");
+        }
+    }
+}
+
 // The letters of a relation's kinds.
 #[derive(Clone, Copy)]
-pub struct KindLetters<'a>(pub &'a [Kind]);
+pub struct KindLetters(pub Kinds);
 
-impl fmt::Display for KindLetters<'_> {
+impl fmt::Display for KindLetters {
     fn fmt<W: fmt::Write>(&self, f: &mut fmt::Formatter<W>) -> fmt::Result {
         let mut shown = Shown::new(f);
-        put_letters(&mut shown, self.0);
+        put_letters(&mut shown, self.0.as_slice());
         shown.result
     }
 }
@@ -63,6 +73,21 @@ impl fmt::Display for ValueText {
     fn fmt<W: fmt::Write>(&self, f: &mut fmt::Formatter<W>) -> fmt::Result {
         let mut shown = Shown::new(f);
         put_value(&mut shown, self.kind, self.value);
+        shown.result
+    }
+}
+
+// The line of a row, without its end.
+#[derive(Clone, Copy)]
+pub struct RowLine {
+    pub row: Row,
+    pub kinds: Kinds,
+}
+
+impl fmt::Display for RowLine {
+    fn fmt<W: fmt::Write>(&self, f: &mut fmt::Formatter<W>) -> fmt::Result {
+        let mut shown = Shown::new(f);
+        put_line(&mut shown, self.kinds.as_slice(), &self.row);
         shown.result
     }
 }

@@ -1,7 +1,9 @@
 // What takes a text, part by part: one sink finds whether there is room for the whole, one writes it to lent bytes, and one, in `show`, to a formatter.
-ghost use Rattle.std.specs.Prelude.{◌≡◌, List, ℕ, [], ◌++◌};
+ghost use Rattle.std.specs.Prelude.{◌≡◌, List, ℕ, [], ◌++◌, decimal};
 ghost use Rattle.listing.specs.Sinks.{left_of, Extends};
 ghost use Rattle.listing.specs.SinkLaws.{left_nothing, left_both, extends_nothing, extends_both};
+
+use crate::numbers::put_digits;
 
 pub(crate) trait Sink {
     // Relates the sink before, the text that it takes, and the sink after.
@@ -17,6 +19,13 @@ pub(crate) trait Sink {
     ghost both: { (p q r : Self) (s t : List ℕ) → takes p s q → takes q t r → takes p (s ++ t) r };
 }
 
+// A sink that takes a number too, in plain decimal: digit by digit, but where it has a shorter way. A trait of its own, since
+// `put_digits` asks for a sink.
+pub(crate) trait NumberSink: Sink {
+    fn put_decimal(&mut self, n: u64)
+        ensures { Self.takes self.old (decimal n) self.new };
+}
+
 // How many bytes are left for a text; none once it does not fit.
 #[derive(Clone, Copy)]
 pub(crate) struct Room(pub(crate) Option<usize>);
@@ -30,6 +39,12 @@ impl Sink for Room {
 
     fn put(&mut self, part: &[u8]) {
         self.0 = self.0.and_then(|left| left.checked_sub(part.len()));
+    }
+}
+
+impl NumberSink for Room {
+    fn put_decimal(&mut self, n: u64) {
+        put_digits(self, n);
     }
 }
 
@@ -55,5 +70,11 @@ impl Sink for Output<'_> {
             self.bytes[self.at..end].copy_from_slice(part);
             self.at = end;
         }
+    }
+}
+
+impl NumberSink for Output<'_> {
+    fn put_decimal(&mut self, n: u64) {
+        put_digits(self, n);
     }
 }

@@ -22,7 +22,7 @@ fn is_period(from: i64, until: i64) -> bool
 }
 
 // The values as a row stores them: unused ones are 0.
-fn stored_values(values: &Values) -> [i64; MOST_COLUMNS]
+pub fn stored_values(values: &Values) -> [i64; MOST_COLUMNS]
     ensures { result ≡ padded (items values.now) }
 {
     let values = values.as_slice();

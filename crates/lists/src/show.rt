@@ -1,2 +1,2 @@
 // A list as text, and its parts.
-pub use listing::show::{KindLetters, ListText, ValueText};
+pub use listing::show::{KindLetters, ListText, RowLine, ValueText};

@@ -25,6 +25,17 @@ use Rattle.register.specs.Refusals.{slip_fits, put_no, publish_no, work_no, hand
 use Rattle.register.proofs.Naming.{length_parts, parts_at, named_none, bears_name}
 use Rattle.register.proofs.Changes.{held_at, old, draft_bears}
 
+-- what a mark is that passes a test
+pub draft_from : (m : Mark) → is_draft m ≡ true → m ≡ Draft
+draft_from Free h = absurd (both_ways false refl h)
+draft_from Draft h = refl
+draft_from Published h = absurd (both_ways false refl h)
+
+pub published_from : (m : Mark) → is_published m ≡ true → m ≡ Published
+published_from Free h = absurd (both_ways false refl h)
+published_from Draft h = absurd (both_ways false refl h)
+published_from Published h = refl
+
 pub held_place : (s : Store) (n i : ℕ) → Whole s → i < length s.directory.entries → bearer (get_or s.directory.entries i free) n ≡ true →
     held s n ≡ Some (entry_part (get_or s.directory.entries i free) (old s.directory.entries s.rows.now i))
 held_place s n i whole h b = held_at s.directory.entries s.rows.now i n whole.apart h b

@@ -13,7 +13,7 @@ use Rattle.register.proofs.Storage.{total_cons}
 use Rattle.register.proofs.Naming.{vacant_bears}
 use Rattle.register.proofs.Changes.{vacant_good}
 
-idle : (n k : ℕ) (e : Entry) → Vacant e → ((get_or (replicate n e) k free).mark ≡ Free) × ((get_or (replicate n e) k free).count ≡ 0)
+pub idle : (n k : ℕ) (e : Entry) → Vacant e → ((get_or (replicate n e) k free).mark ≡ Free) × ((get_or (replicate n e) k free).count ≡ 0)
 idle zero k e v = (refl, refl)
 idle (suc n) zero e v = (v.mark, v.count)
 idle (suc n) (suc k) e v = idle n k e v
@@ -55,7 +55,7 @@ module _ (rs : List Row) (n : ℕ) (h : n ≤ length rs) where
   pub wiped_at : (k : ℕ) → k < n → get_or (wiped rs n) k blank_row ≡ blank_row
   wiped_at k l = grind (arith, places)
 
-all_good : (n : ℕ) (e : Entry) (rs : List Row) → Vacant e → list_all good_part (parts (replicate n e) rs) ≡ true
+pub all_good : (n : ℕ) (e : Entry) (rs : List Row) → Vacant e → list_all good_part (parts (replicate n e) rs) ≡ true
 all_good zero e rs v = refl
 all_good (suc n) e rs v =
     and_from (good_part (entry_part e (take e.count rs))) (list_all good_part (parts (replicate n e) (drop e.count rs))) (vacant_good e (take e.count rs) v) (all_good n e (drop e.count rs) v)

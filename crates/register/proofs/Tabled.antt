@@ -65,7 +65,7 @@ listed_from (r ∷ rows) h = let p = and_parts (list_all (is_ahead r) rows) (is_
 -- ---- the rows of a table
 
 -- rows that are good have periods, and values within the bounds of their kinds
-all_good : (ks : List Kind) (xs : List Row) → list_all (λ w. good_row ks (meant (length ks) w)) xs ≡ true → (all_periods xs ≡ true) × (all_fit ks xs ≡ true)
+pub all_good : (ks : List Kind) (xs : List Row) → list_all (λ w. good_row ks (meant (length ks) w)) xs ≡ true → (all_periods xs ≡ true) × (all_fit ks xs ≡ true)
 all_good ks [] h = (refl, refl)
 all_good ks (w ∷ xs) h =
     let here = and_parts (good_row ks (meant (length ks) w)) _ h in

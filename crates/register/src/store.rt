@@ -186,8 +186,7 @@ impl<'a> Store<'a> {
         let capacity = self.capacity();
         let (at, entry) = self.laid(i);
         let rows = &self.rows[..capacity];
-        let kinds = entry.kinds.as_slice();
-        coalesce_part(rows, at, entry.count, kinds, work, index)
+        coalesce_part(rows, at, entry.count, entry.kinds, work, index)
     }
 
     // Puts the canonical list of a draft's rows, which it leaves in the work area too, in their place, marks it

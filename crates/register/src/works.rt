@@ -2,6 +2,7 @@
 ghost use Rattle.std.specs.List.{list_all};
 ghost use Rattle.std.specs.Prelude.{◌≡◌, ◌+◌, ◌≤◌, true, length};
 ghost use Rattle.relation.specs.Bounds.{most_stored};
+ghost use Rattle.relation.specs.Few.{items};
 ghost use Rattle.relation.specs.Rows.{on as day_sets};
 ghost use Rattle.relation.specs.Stored.{blank_row};
 ghost use Rattle.collect.specs.Collects.{Collects};
@@ -12,30 +13,30 @@ ghost use Rattle.register.specs.Refusals.{work_no};
 
 use collect::collects::collect;
 use relation::bounds::MOST_WORK;
-use relation::kinds::Kind;
+use relation::columns::Kinds;
 use relation::refusals::Refusal;
 use relation::rows::Row;
 use source::tables::Table;
 use tree::Node;
 
 // Leaves the canonical list of the `len` rows from `start` on at the start of the work rows,
-// and answers how many rows it has. `Table::part`, and not `Table::open` of those rows: by the rules a stored table has one place for each
-// row of the capacity.
+// and answers how many rows it has. The rows were looked at when they were put in, so the table is made without a second look; by the
+// rules a stored table has one place for each row of the capacity.
 pub fn coalesce_part(
     rows: &[Row],
     start: usize,
     len: usize,
-    kinds: &[Kind],
+    kinds: Kinds,
     work: &mut [Row],
     index: &mut [Node],
 ) -> Result<usize, Refusal>
     requires within { start + len ≤ length rows.now }
     requires places { length rows.now ≤ most_stored }
-    requires few { is_few kinds.now ≡ true }
-    requires good { list_all (good_row kinds.now) (part_of kinds.now start len rows.now) ≡ true }
-    ensures { Collects (work_no (length (part_of kinds.now start len rows.now)) work.old index.old) (day_sets (part_of kinds.now start len rows.now)) work.old index.old result work.new index.new }
+    requires few { is_few (items kinds) ≡ true }
+    requires good { list_all (good_row (items kinds)) (part_of (items kinds) start len rows.now) ≡ true }
+    ensures { Collects (work_no (length (part_of (items kinds) start len rows.now)) work.old index.old) (day_sets (part_of (items kinds) start len rows.now)) work.old index.old result work.new index.new }
 {
-    let table = Table::part(rows, start, len, kinds)?;
+    let table = Table::new(rows, start, len, kinds, false);
     collect(&table, work, index)
 }
 

@@ -1,11 +1,20 @@
 -- The rows from a place on, as a walk from filled place to filled place meets them.
-use Rattle.std.proofs.Common.{◌≡◌, ℕ, zero, suc, ◌+◌, ◌-◌, ◌<◌, ◌≤◌, List, [], ◌∷◌, ◌++◌, map, Some, None, Option, sym, refl, ap, ◌∙◌, ⊎_elim, arith}
+use Rattle.std.proofs.Common.{◌≡◌, ℕ, zero, suc, ◌+◌, ◌-◌, ◌<◌, ◌≤◌, List, [], ◌∷◌, ◌++◌, map, length, length-append, Some, None, Option, sym, refl, ap, ◌∙◌, ⊎_elim, arith}
 use Rattle.std.proofs.lemmas.Bool.{cases_lt}
 use Rattle.relation.specs.declared.rows.Row.{Row}
 use Rattle.relation.specs.Rows.{SpecRow}
 use Rattle.source.specs.Meaning.{Meaning, NoneLed, filled?, row?, rows_below, rows_of}
 use Rattle.source.specs.Filled.{rows_between, rows_from}
 use Rattle.relation.specs.Stored.{stored}
+
+-- the rows below a place are not fewer than those below an earlier one
+pub rows_grow : (m : Meaning) (k n : ℕ) → k ≤ n → length (rows_below m k) ≤ length (rows_below m n)
+rows_grow m k zero le = let e : k ≡ 0 = omega arith in let f = ap (λ i. length (rows_below m i)) e in omega (arith, f)
+rows_grow m k (suc n) le =
+    ⊎_elim
+    (λ lt. omega (arith, rows_grow m k n (omega arith), length-append (rows_below m n) (filled? (m.at n))))
+    (λ ge. let e : k ≡ suc n = omega arith in let f = ap (λ i. length (rows_below m i)) e in omega (arith, f))
+    (cases_lt k (suc n))
 
 pub rows_next : (m : Meaning) (k : ℕ) → k < m.count → rows_from m k ≡ filled? (m.at k) ++ rows_from m (suc k)
 rows_next m k lt = let e : m.count - k ≡ suc (m.count - suc k) = omega arith in ap (rows_between m k) e

@@ -55,7 +55,7 @@ pub few_columns : (rows : List Row) (start len : ℕ) (ks : List Kind) → Sound
 few_columns rows start len ks s = s.few_kinds
 
 -- a table is sound if its rows are good
-table_sound : (rows : List Row) (start len : ℕ) (ks : List Kind) → 1 ≤ length ks → length ks ≤ most_columns → length rows ≤ most_places
+pub table_sound : (rows : List Row) (start len : ℕ) (ks : List Kind) → 1 ≤ length ks → length ks ≤ most_columns → length rows ≤ most_places
     → ((i : ℕ) → i < start + len → start ≤ i → i < length rows → Good ks (meant (length ks) (get_or rows i no_row))) → Sound (table rows start len ks)
 table_sound rows start len ks some few many each = record {
   some_kinds = some;

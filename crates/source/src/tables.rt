@@ -1,6 +1,7 @@
 // A table: rows that lie beside each other in a lent area, the other rows of the area being empty places.
 ghost use Rattle.std.specs.Prelude.{◌≡◌, ◌+◌, ◌<◌, ◌≤◌, min, true, length, Decides, Some, None, MatchResult};
 ghost use Rattle.relation.specs.Bounds.{most_columns};
+ghost use Rattle.relation.specs.Few.{items};
 ghost use Rattle.relation.specs.Refusals.{Answers};
 ghost use Rattle.source.specs.Meaning.{fits};
 ghost use Rattle.source.specs.Tables.{table, meant?, all_periods, all_fit, no_rows, no_table, no_part, TableOk, Rising, leading, Leads, LowerBound, NextLed};
@@ -12,6 +13,7 @@ ghost use Rattle.std.specs.Ordering.{is_lt, int_cmp};
 
 use crate::asks::Source;
 use relation::bounds::{MOST_COLUMNS, MOST_PLACES};
+use relation::columns::Kinds;
 use relation::days::is_period;
 use relation::kinds::Kind;
 use relation::refusals::{Reason, Refusal};
@@ -76,9 +78,9 @@ fn in_order(rows: &[Row], kinds: &[Kind]) -> bool
     rows.is_sorted_by(|row, next| !falls(row, next, kinds.len()))
 }
 
-// Whether some rows of an area of so many are a table of these kinds.
-fn check_rows(places: usize, rows: &[Row], kinds: &[Kind]) -> Result<(), Reason>
-    ensures { MatchResult result (λ _. no_rows places rows.now kinds.now ≡ None) (λ e. no_rows places rows.now kinds.now ≡ Some e) }
+// The kinds, where some rows of an area of so many are a table of them.
+fn check_rows(places: usize, rows: &[Row], kinds: &[Kind]) -> Result<Kinds, Reason>
+    ensures { MatchResult result (λ k. (no_rows places rows.now kinds.now ≡ None) × (items k ≡ kinds.now)) (λ e. no_rows places rows.now kinds.now ≡ Some e) }
 {
     if kinds.is_empty() || kinds.len() > MOST_COLUMNS {
         return Err(Reason::Misfit);
@@ -92,34 +94,43 @@ fn check_rows(places: usize, rows: &[Row], kinds: &[Kind]) -> Result<(), Reason>
     if places > MOST_PLACES {
         return Err(Reason::TooManyPlaces);
     }
-    Ok(())
+    Kinds::from_slice(kinds, Kind::Number).ok_or(Reason::Misfit)
 }
 
 #[derive(Clone, Copy)]
 pub struct Table<'a> {
     rows: &'a [Row],
-    kinds: &'a [Kind],
+    kinds: Kinds,
     start: usize,
     len: usize,
     // The rows are known to be listed: from row to row the tuples rise or stay equal. A flag and no type of its own: a listed table
     // answers the same, only `seek` goes faster.
     listed: bool,
-    ghost ok: { TableOk rows.now start len kinds.now listed },
+    ghost ok: { TableOk rows.now start len (items kinds) listed },
 }
 
 impl<'a> Table<'a> {
-    // A table of all the rows, each looked at first.
-    pub fn open(rows: &'a [Row], kinds: &'a [Kind]) -> Result<Table<'a>, Refusal>
-        ensures { Answers result (no_table rows.now kinds.now) (λ t. (t.rows.now ≡ rows.now) × (t.start ≡ 0) × (t.len ≡ length rows.now) × (t.kinds.now ≡ kinds.now) × Decides t.listed (Rising (table rows.now 0 (length rows.now) kinds.now))) }
+    // The `len` rows from `start` on, which are known to be a table and are not looked at; `listed` says that they are known to be listed.
+    pub fn new(rows: &'a [Row], start: usize, len: usize, kinds: Kinds, listed: bool) -> Table<'a>
+        requires { TableOk rows.now start len (items kinds) listed }
+        ensures { (result.rows.now ≡ rows.now) × (result.start ≡ start) × (result.len ≡ len) × (result.kinds ≡ kinds) × (result.listed ≡ listed) }
     {
-        check_rows(rows.len(), rows, kinds)?;
-        Ok(Table {
+        Table {
             rows,
             kinds,
-            start: 0,
-            len: rows.len(),
-            listed: in_order(rows, kinds),
-        })
+            start,
+            len,
+            listed,
+        }
+    }
+
+    // A table of all the rows, each looked at first.
+    pub fn open(rows: &'a [Row], kinds: &[Kind]) -> Result<Table<'a>, Refusal>
+        ensures { Answers result (no_table rows.now kinds.now) (λ t. (t.rows.now ≡ rows.now) × (t.start ≡ 0) × (t.len ≡ length rows.now) × (items t.kinds ≡ kinds.now) × Decides t.listed (Rising (table rows.now 0 (length rows.now) kinds.now))) }
+    {
+        let few = check_rows(rows.len(), rows, kinds)?;
+        let listed = in_order(rows, kinds);
+        Ok(Table::new(rows, 0, rows.len(), few, listed))
     }
 
     // A table of the `len` rows from `start` on, each looked at first, where the other rows are empty places.
@@ -127,25 +138,27 @@ impl<'a> Table<'a> {
         rows: &'a [Row],
         start: usize,
         len: usize,
-        kinds: &'a [Kind],
+        kinds: &[Kind],
     ) -> Result<Table<'a>, Refusal>
-        ensures { Answers result (no_part rows.now start len kinds.now) (λ t. (t.rows.now ≡ rows.now) × (t.start ≡ start) × (t.len ≡ len) × (t.kinds.now ≡ kinds.now) × Decides t.listed (Rising (table rows.now start len kinds.now))) }
+        ensures { Answers result (no_part rows.now start len kinds.now) (λ t. (t.rows.now ≡ rows.now) × (t.start ≡ start) × (t.len ≡ len) × (items t.kinds ≡ kinds.now) × Decides t.listed (Rising (table rows.now start len kinds.now))) }
     {
         let after = &rows[start.min(rows.len())..];
         let part = &after[..len.min(after.len())];
-        check_rows(rows.len(), part, kinds)?;
-        Ok(Table {
-            rows,
-            kinds,
-            start,
-            len,
-            listed: in_order(part, kinds),
-        })
+        let few = check_rows(rows.len(), part, kinds)?;
+        let listed = in_order(part, kinds);
+        Ok(Table::new(rows, start, len, few, listed))
+    }
+
+    // How many columns there are.
+    fn width(&self) -> usize
+        ensures { result ≡ length (items self.now.kinds) }
+    {
+        self.kinds.as_slice().len()
     }
 
     // The row at a place that is filled.
     fn held(&self, k: usize) -> Option<Row>
-        ensures { meant? (length self.now.kinds.now) result ≡ (table self.now.rows.now self.now.start self.now.len self.now.kinds.now).at k }
+        ensures { meant? (length (items self.now.kinds)) result ≡ (table self.now.rows.now self.now.start self.now.len (items self.now.kinds)).at k }
     {
         if k >= self.start && k - self.start < self.len && k < self.rows.len() {
             Some(self.rows[k])
@@ -165,9 +178,9 @@ impl<'a> Table<'a> {
     fn compare(&self, k: usize, lead: &[i64]) -> Ordering
         requires after { self.now.start ≤ k }
         requires within { k < min (length self.now.rows.now) (self.now.start + self.now.len) }
-        ensures { Leads (table self.now.rows.now self.now.start self.now.len self.now.kinds.now) lead.now k result }
+        ensures { Leads (table self.now.rows.now self.now.start self.now.len (items self.now.kinds)) lead.now k result }
     {
-        compare_lead(&self.rows[k], self.kinds.len(), lead)
+        compare_lead(&self.rows[k], self.width(), lead)
     }
 
     // The first place from `from` on that does not lead with less than `lead`.
@@ -175,9 +188,9 @@ impl<'a> Table<'a> {
         requires known { self.now.listed ≡ true }
         requires after { self.now.start ≤ from }
         requires within { from ≤ min (length self.now.rows.now) (self.now.start + self.now.len) }
-        ensures { LowerBound (table self.now.rows.now self.now.start self.now.len self.now.kinds.now) lead.now from (min (length self.now.rows.now) (self.now.start + self.now.len)) result }
+        ensures { LowerBound (table self.now.rows.now self.now.start self.now.len (items self.now.kinds)) lead.now from (min (length self.now.rows.now) (self.now.start + self.now.len)) result }
     {
-        let width = self.kinds.len();
+        let width = self.width();
         let below = self.rows[from..self.past()].partition_point(|row| compare_lead(
             row, width, lead,
         ).is_lt());
@@ -189,7 +202,7 @@ impl<'a> Table<'a> {
         requires known { self.now.listed ≡ true }
         requires after { self.now.start ≤ from }
         requires within { from < min (length self.now.rows.now) (self.now.start + self.now.len) }
-        ensures { NextLed (table self.now.rows.now self.now.start self.now.len self.now.kinds.now) lead.now from result }
+        ensures { NextLed (table self.now.rows.now self.now.start self.now.len (items self.now.kinds)) lead.now from result }
     {
         if self.compare(from, lead).is_eq() {
             return from;
@@ -204,12 +217,12 @@ impl<'a> Table<'a> {
 }
 
 impl Source for Table<'_> {
-    ghost meaning = { λ s. table s.rows.now s.start s.len s.kinds.now };
+    ghost meaning = { λ s. table s.rows.now s.start s.len (items s.kinds) };
 
     ghost sound = { λ s. s.ok.sound };
 
     fn columns(&self) -> usize {
-        self.kinds.len()
+        self.width()
     }
 
     fn places(&self) -> usize {
@@ -217,11 +230,11 @@ impl Source for Table<'_> {
     }
 
     fn kind(&self, c: usize) -> Option<Kind> {
-        self.kinds.get(c.checked_sub(1)?).copied()
+        self.kinds.get(c.checked_sub(1)?)
     }
 
     fn row(&self, k: usize) -> Option<Row> {
-        Some(self.held(k)?.trimmed(self.kinds.len()))
+        Some(self.held(k)?.trimmed(self.width()))
     }
 
     fn seek(&self, k: usize, lead: &[i64]) -> usize {

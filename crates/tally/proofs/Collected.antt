@@ -109,7 +109,7 @@ module _ (m : Meaning) (sound : Sound m) (xs : List SpecRow) (lists : Lists xs (
   pub few_listed : length xs ≤ length (rows_of m)
   few_listed = fewest xs (rows_of m) lists.canonical (all_rows Period m (λ k r e. (sound.filled k r e).period) m.count) lists.sets
 
-  period_listed : (i : ℕ) → i < length xs → Period (get_or xs i no_spec)
+  pub period_listed : (i : ℕ) → i < length xs → Period (get_or xs i no_spec)
   period_listed i lt = All-get_or Period xs i no_spec lt lists.canonical.periods
 
   pub fits_listed : (i : ℕ) → i < length xs → fits m.kinds (get_or xs i no_spec).tuple ≡ true

@@ -38,8 +38,10 @@ fn load(rt: &HostRuntime, path: &str) -> anyhow::Result<List> {
     let (rows, index) = work.lend();
     let count = collect_rows(typed.as_slice(), kinds.as_slice(), rows, index)?;
     println!(rt; "{path}: {} rows, coalesced to {count}", typed.len())?;
-    let rows = work.list(count).to_vec(heap)?;
-    Ok(List { kinds, rows })
+    Ok(List {
+        kinds,
+        rows: work.into_list(count),
+    })
 }
 
 impl List {

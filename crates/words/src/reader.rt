@@ -54,7 +54,12 @@ impl<'a> Iterator for Words<'a> {
         ensures goes { MakesProgress (λ _. ⊤) (item_count words_left) self.old result self.new }
     {
         let ahead = self.line.get(self.at..)?;
-        let place = self.at + leading_spaces(ahead)?;
+        let Some(spaces) = leading_spaces(ahead) else {
+            // To the end, so that a further question does not go over these spaces again.
+            self.at = self.line.len();
+            return None;
+        };
+        let place = self.at + spaces;
         let word = &self.line[place..];
         let text = &word[..length_before(word, SPACE)];
         self.at = place + text.len();

@@ -41,4 +41,13 @@ impl Workspace {
         let rows = self.rows.as_slice();
         &rows[..count.min(rows.len())]
     }
+
+    // The same list to keep, in the memory that it stands in; the index is given up.
+    pub fn into_list(self, count: usize) -> Vec<Row>
+        ensures { result.items ≡ take count self.rows.items }
+    {
+        let Workspace { mut rows, index: _ } = self;
+        rows.truncate(count);
+        rows
+    }
 }

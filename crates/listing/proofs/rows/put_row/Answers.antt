@@ -1,6 +1,4 @@
 use Rattle.listing.proofs.rows.put_row.Goals as goal
 
 pub returns : goal.returns
-returns g c =
-    let both = g.met.S.Sink.both in
-    both _ _ _ _ _ (both _ _ _ _ _ (both _ _ _ _ _ (both _ _ _ _ _ c.put_decimal.ensures c.put.ensures) c.put_decimal-2.ensures) c.put_values.ensures) c.put-2.ensures
+returns g c = g.met.S.Sink.both _ _ _ _ _ c.put_line.ensures c.put.ensures

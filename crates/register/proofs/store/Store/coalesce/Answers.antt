@@ -19,7 +19,7 @@ coalesce_part-requires c =
     let l : i < length es = omega (arith, c.requires.whole.all, c.requires.within) in
     let p = part_in es s.rows.now i c.capacity-capacity.result c.laid-at.result.0 c.requires.whole l c.capacity-capacity.ensures c.laid-at.ensures.start in
     let g = good_at es s.rows.now i c.requires.whole l (ap is_free c.requires.draft) in
-    let ks : c.as_slice-kinds.result.now ≡ items e.kinds = c.as_slice-kinds.ensures.items ∙ ap (λ x. items x.kinds) c.laid-at.ensures.entry in
+    let ks : items c.laid-at.result.1.kinds ≡ items e.kinds = ap (λ x. items x.kinds) c.laid-at.ensures.entry in
     let n : c.laid-at.result.1.count ≡ e.count = ap (λ x. x.count) c.laid-at.ensures.entry in
     record {
       within = omega (arith, p.0, n);
@@ -37,8 +37,8 @@ returns c =
     let e = get_or es i free in
     let l : i < length es = omega (arith, c.requires.whole.all, c.requires.within) in
     let p = part_in es s.rows.now i c.capacity-capacity.result c.laid-at.result.0 c.requires.whole l c.capacity-capacity.ensures c.laid-at.ensures.start in
-    let ks : c.as_slice-kinds.result.now ≡ items e.kinds = c.as_slice-kinds.ensures.items ∙ ap (λ x. items x.kinds) c.laid-at.ensures.entry in
+    let ks : items c.laid-at.result.1.kinds ≡ items e.kinds = ap (λ x. items x.kinds) c.laid-at.ensures.entry in
     let n : c.laid-at.result.1.count ≡ e.count = ap (λ x. x.count) c.laid-at.ensures.entry in
-    let same : map (meant (length c.as_slice-kinds.result.now)) (take c.laid-at.result.1.count (drop c.laid-at.result.0 (take c.capacity-capacity.result s.rows.now))) ≡ map (meant (length (items e.kinds))) (old es s.rows.now i) =
+    let same : map (meant (length (items c.laid-at.result.1.kinds))) (take c.laid-at.result.1.count (drop c.laid-at.result.0 (take c.capacity-capacity.result s.rows.now))) ≡ map (meant (length (items e.kinds))) (old es s.rows.now i) =
     (λ j. map (meant (length (ks j))) (take (n j) (drop c.laid-at.result.0 (take c.capacity-capacity.result s.rows.now)))) ∙ ap (map (meant (length (items e.kinds)))) p.2 in
     subst (λ (xs : List SpecRow). Collects (work_no (length xs) c.args.work.now c.args.index.now) (on xs) c.args.work.now c.args.index.now c.coalesce_part.result c.coalesce_part.new.work c.coalesce_part.new.index) same c.coalesce_part.ensures
