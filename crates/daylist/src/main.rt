@@ -20,7 +20,7 @@ fn print_coalesced(rt: &HostRuntime, header: Header<'_>, rows: &[Row]) -> anyhow
             println!(rt; "coalesced to {count} rows")?;
             let list = ListText {
                 name: header.name,
-                kinds,
+                kinds: header.kinds,
                 rows: work.list(count),
             };
             print!(rt; "{list}")?;

@@ -96,14 +96,14 @@ impl fmt::Display for RowLine {
 #[derive(Clone, Copy)]
 pub struct ListText<'a> {
     pub name: &'a [u8],
-    pub kinds: &'a [Kind],
+    pub kinds: Kinds,
     pub rows: &'a [Row],
 }
 
 impl fmt::Display for ListText<'_> {
     fn fmt<W: fmt::Write>(&self, f: &mut fmt::Formatter<W>) -> fmt::Result {
         let mut shown = Shown::new(f);
-        put_list(&mut shown, self.name, self.kinds, self.rows);
+        put_list(&mut shown, self.name, self.kinds.as_slice(), self.rows);
         shown.result
     }
 }

@@ -51,7 +51,7 @@ impl List {
 }
 
 // Prints the list that a step left.
-fn show(rt: &HostRuntime, name: &str, kinds: &[Kind], rows: &[Row]) -> anyhow::Result<()> {
+fn show(rt: &HostRuntime, name: &str, kinds: Kinds, rows: &[Row]) -> anyhow::Result<()> {
     let list = ListText {
         name: name.as_bytes(),
         kinds,
@@ -73,8 +73,11 @@ fn answer(
     let covered = covers.open()?;
     let valued = values.open()?;
     // The instrument, and what the list of values has beside it.
-    let both = values.kinds.as_slice();
-    let instrument = both.get(..1).unwrap_or(both);
+    let both = values.kinds;
+    let mut instrument = Kinds::new(Kind::Number);
+    if let Some(kind) = both.get(0) {
+        instrument.push(kind);
+    }
     let mut work = Workspace::new(rt.alloc(), MOST_WORK)?;
     println!(rt; "instruments that were out:")?;
     let (rows, index) = work.lend();
